@@ -12,9 +12,9 @@ use Rattle.nl_spec_headline.specs.declared.lists.Synced.{Synced}
 use Rattle.nl_tree.specs.declared.call.Line.{Line}
 use Rattle.nl_app_file.specs.Ended.{EndsOnFile}
 use Rattle.nl_top.specs.Leaving.{Leaving, prefixes_of}
-use Rattle.nl_top.specs.Ends.{Ends, checks, faulty_words, formats, reports, runs, shows_tree, soaks}
+use Rattle.nl_top.specs.Ends.{CallEnds, checks, faulty_words, formats, reports, runs, shows_tree, soaks}
 use Rattle.nl_top.specs.Soak.{Summarises}
-use Rattle.nl_top.specs.RunEnds.{RunEnds, ScriptEnds, TellsAnswers, not_run, ran, runs_script, script_refused, source_fault, source_no_memory}
+use Rattle.nl_top.specs.RunEnds.{RunEnds, ScriptEnds, PrintsAnswers, not_run, ran, runs_script, script_refused, source_fault, source_no_memory}
 
 module _ (leaves : Leaving → Type 0) (source source' sink sink' : Stream) (medium medium' : Medium) (order : List Ordered) (syncs : List Synced) (status : ℕ) where
   untold : (lines : List Line) (worn : Bool) (course : Course) → RunsLines ⊥ lines (λ run. leaves (prefixes_of run)) medium medium' order syncs worn course → RunsLines ⊥ lines (λ run. ⊤) medium medium' order syncs worn course
@@ -48,9 +48,9 @@ module _ (leaves : Leaving → Type 0) (source source' sink sink' : Stream) (med
   script_untold (source_fault three rose kept before) = source_fault three rose tt before
   script_untold (source_no_memory six kept before) = source_no_memory six tt before
   script_untold (script_refused line column why two refuses kept before) = script_refused line column why two refuses tt before
-  script_untold (runs_script lines reads ends) = runs_script lines reads (ran_untold lines TellsAnswers ends)
+  script_untold (runs_script lines reads ends) = runs_script lines reads (ran_untold lines PrintsAnswers ends)
 
-  pub ends_untold : (words : List (List ℕ)) → Ends ⊥ words leaves source source' sink sink' medium medium' order syncs status → Ends ⊥ words (λ leaving. ⊤) source source' sink sink' medium medium' order syncs status
+  pub ends_untold : (words : List (List ℕ)) → CallEnds ⊥ words leaves source source' sink sink' medium medium' order syncs status → CallEnds ⊥ words (λ leaving. ⊤) source source' sink sink' medium medium' order syncs status
   ends_untold words (faulty_words none two same kept before) = faulty_words none two same tt before
   ends_untold words (runs is ends) = runs is (script_untold ends)
   ends_untold words (formats blocks pages is same kept ends) = formats blocks pages is same tt ends
@@ -60,7 +60,7 @@ module _ (leaves : Leaving → Type 0) (source source' sink sink' : Stream) (med
   ends_untold words (soaks seed count workers lines is same drawn ends) = soaks seed count workers lines is same drawn (ran_untold lines (Summarises ⊥) ends)
 
 pub on_file : {words : List (List ℕ)} {leaves : Leaving → Type 0} {source source' sink sink' : Stream} {before after : Medium} {order : List Ordered} {syncs : List Synced} {status : ℕ}
-    → Ends ⊥ words leaves source source' sink sink' before after order syncs status → EndsOnFile words source source' sink sink' status
+    → CallEnds ⊥ words leaves source source' sink sink' before after order syncs status → EndsOnFile words source source' sink sink' status
 on_file {words = words} {leaves = leaves} {source = source} {source' = source'} {sink = sink} {sink' = sink'} {before = before} {after = after} {order = order} {syncs = syncs} {status = status} ends =
     (before, after, order, syncs, ends_untold leaves source source' sink sink' before after order syncs status words ends)
 
@@ -82,7 +82,7 @@ not_both none some = cc (none, some)
 
 module _ {tells : Type 0} {words : List (List ℕ)} {leaves : Leaving → Type 0} {source source' sink sink' : Stream} {medium medium' : Medium} {order : List Ordered} {syncs : List Synced} {status : ℕ} (none : command_of words ≡ None) where
   -- faulty words end so on whatever medium
-  pub faulty_on_file : Ends tells words leaves source source' sink sink' medium medium' order syncs status → EndsOnFile words source source' sink sink' status
+  pub faulty_on_file : CallEnds tells words leaves source source' sink sink' medium medium' order syncs status → EndsOnFile words source source' sink sink' status
   faulty_on_file (faulty_words is two same kept before) = (medium, medium', order, syncs, faulty_words none two same tt (before_untold before))
   faulty_on_file (runs is ends) = absurd (not_both none is)
   faulty_on_file (formats blocks pages is same kept ends) = absurd (not_both none is)

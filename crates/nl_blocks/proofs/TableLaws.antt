@@ -7,7 +7,7 @@ use Rattle.std.proofs.lemmas.List.{length-set, get_or-set_same, get_or-set_other
 use Rattle.std.proofs.lemmas.List.Sums.{sum_by-set}
 use Rattle.nl_blocks.specs.declared.states.BlockState.{BlockState}
 use Rattle.nl_blocks.specs.declared.states.PageState.{PageState}
-use Rattle.nl_blocks.specs.Table.{BlockRow, Table, IsTable, HasBlock, HasPage, block_at, page_at, new_page, no_row, with_block, with_page, in_state, with_mark}
+use Rattle.nl_blocks.specs.Table.{BlockRow, Table, IsBlockTable, HasBlock, HasPage, block_at, page_at, new_page, no_row, with_block, with_page, in_state, with_mark}
 use Rattle.nl_blocks.proofs.TableProofs.{row_size}
 
 -- a sum over the blocks
@@ -36,7 +36,7 @@ page_at-in_state t block page state has has_page = ⊎_elim
     (λ differ. ap (λ (row : BlockRow). get_or row.pages (page % t.size) new_page) (block_at-with_block_other t block (page / t.size) (in_state (block_at t block) state) has has_page differ))
     (cases_eq (page / t.size) block)
 
-pub page_at-with_page_same : (t : Table) (page : ℕ) (state : PageState) → IsTable t → HasPage t page → page_at (with_page t page state) page ≡ record { state = state; marked = true }
+pub page_at-with_page_same : (t : Table) (page : ℕ) (state : PageState) → IsBlockTable t → HasPage t page → page_at (with_page t page state) page ≡ record { state = state; marked = true }
 page_at-with_page_same t page state is has =
     let size = row_size t is (page / t.size) has in
     let some = is.some in

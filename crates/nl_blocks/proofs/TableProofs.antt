@@ -12,11 +12,11 @@ use Rattle.nl_blocks.specs.declared.states.BlockState.{BlockState}
 use Rattle.nl_blocks.specs.declared.states.Page.{Page}
 use Rattle.nl_blocks.specs.declared.states.BlockState.TheVariants.{Free, Active, Target, Sealed, Victim, Retired}
 use Rattle.nl_blocks.specs.declared.states.PageState.TheVariants.{Live}
-use Rattle.nl_blocks.specs.Table.{BlockRow, Table, IsRow, IsTable, IsTied, HasBlock, after_erase, free_count, is_free_state, is_retired_state, is_sealed_state, names_of, block_at, page_at, new_page, new_row, row_at, no_row, is_dead, is_free, wear_of, wear_if_free, NonePass, BestOf, IsFirstLeast, taken, unmarked}
+use Rattle.nl_blocks.specs.Table.{BlockRow, Table, IsRow, IsBlockTable, IsTableSummary, HasBlock, after_erase, free_count, is_free_state, is_retired_state, is_sealed_state, names_of, block_at, page_at, new_page, new_row, row_at, no_row, is_dead, is_free, wear_of, wear_if_free, NonePass, BestOf, IsFirstLeast, taken, unmarked}
 use Rattle.nl_blocks.specs.Tournament.{IsFirstOfLeast, NonePresent, key_at}
 
 -- the number of blocks is a u32
-pub count_fits : (t : Table) → IsTable t → t.first + length t.blocks < 2 ^ 32
+pub count_fits : (t : Table) → IsBlockTable t → t.first + length t.blocks < 2 ^ 32
 count_fits t is = omega (arith, le-mul_of_pos_right (t.first + length t.blocks) is.some, is.numbers)
 
 -- where no row passes, the count is zero
@@ -55,11 +55,11 @@ live_fits pages i page at below live =
     let all = rw here at counted in
     omega arith
 
-pub row_size : (t : Table) → IsTable t → (block : ℕ) → HasBlock t block → length (block_at t block).pages ≡ t.size
+pub row_size : (t : Table) → IsBlockTable t → (block : ℕ) → HasBlock t block → length (block_at t block).pages ≡ t.size
 row_size t is block has = (is.each (block - t.first) no_row (omega arith)).pages
 
 -- a block of which a page is not marked is not full
-pub not_full : (t : Table) → IsTable t → (block : ℕ) → HasBlock t block → (row : BlockRow) → row ≡ get_or t.blocks (block - t.first) row
+pub not_full : (t : Table) → IsBlockTable t → (block : ℕ) → HasBlock t block → (row : BlockRow) → row ≡ get_or t.blocks (block - t.first) row
     → (at : ℕ) → at < length row.pages → (get_or row.pages at new_page).marked ≡ false
     → ((page : ℕ) → page / t.size ≡ block → (page_at t page).marked ≡ true) → true ≡ false
 not_full t is block has row row_is at below free all =
@@ -72,7 +72,7 @@ not_full t is block has row row_is at below free all =
     sym full ∙ (same ∙ free)
 
 -- the number of Free blocks is a u32
-pub free_fits : (t : Table) → IsTable t → count_by is_free t.blocks < 2 ^ 32
+pub free_fits : (t : Table) → IsBlockTable t → count_by is_free t.blocks < 2 ^ 32
 free_fits t is = omega (arith, count_fits t is, count_by-le-length is_free t.blocks)
 
 -- ---- the wear of the Free blocks
@@ -115,11 +115,11 @@ best_of rows keys (Some i) is first =
     present j below passes = ap (λ (ks : List (Option ℕ)). key_at ks j) is ∙ (key-of-row rows j below ∙ ap (λ (b : Bool). cond b (Some (row_at rows j).wear) None) passes)
 
 -- a row replaced
-module _ (t : Table) (free : ℕ) (keys : List (Option ℕ)) (is : IsTied t free keys) (i : ℕ) (x y : BlockRow) (inside : i < length t.blocks) (read : x ≡ get_or t.blocks i x) (stays : IsRow t.size x → IsRow t.size y) where
+module _ (t : Table) (free : ℕ) (keys : List (Option ℕ)) (is : IsTableSummary t free keys) (i : ℕ) (x y : BlockRow) (inside : i < length t.blocks) (read : x ≡ get_or t.blocks i x) (stays : IsRow t.size x → IsRow t.size y) where
   abbrev replaced : Table
   replaced = record { first = t.first; size = t.size; blocks = set t.blocks i y }
 
-  still : IsTable replaced
+  still : IsBlockTable replaced
   still = record {
     some = is.table.some;
     numbers = (let n = is.table.numbers in rw length-set n);
@@ -134,7 +134,7 @@ module _ (t : Table) (free : ℕ) (keys : List (Option ℕ)) (is : IsTied t free
       let counted = is.counted in
       omega (arith, change, was, counted)
 
-  pub kept : (free2 : ℕ) (keys2 : List (Option ℕ)) (key : Option ℕ) → free2 + cond (is_free x) 1 0 ≡ free + cond (is_free y) 1 0 → keys2 ≡ set keys i key → key ≡ wear_if_free y → IsTied replaced free2 keys2
+  pub kept : (free2 : ℕ) (keys2 : List (Option ℕ)) (key : Option ℕ) → free2 + cond (is_free x) 1 0 ≡ free + cond (is_free y) 1 0 → keys2 ≡ set keys i key → key ≡ wear_if_free y → IsTableSummary replaced free2 keys2
   kept free2 keys2 key counted keyed at = record {
     table = still;
     counted = (let n = count in omega (arith, n, counted));
@@ -142,7 +142,7 @@ module _ (t : Table) (free : ℕ) (keys : List (Option ℕ)) (is : IsTied t free
   }
 
   -- by one with the same key
-  pub kept_same : is_free y ≡ is_free x → wear_if_free y ≡ wear_if_free x → IsTied replaced free keys
+  pub kept_same : is_free y ≡ is_free x → wear_if_free y ≡ wear_if_free x → IsTableSummary replaced free keys
   kept_same same_state same_key = record {
     table = still;
     counted = (let one : Bool → ℕ = λ b. cond b 1 0 in let n = count in let e : one (is_free y) ≡ one (is_free x) = ap one same_state in omega (arith, n, e));
@@ -182,18 +182,18 @@ read_set : (rows : List BlockRow) (i : ℕ) (y z : BlockRow) → i < length rows
 read_set rows i y z inside a = a ∙ get_or-set_same rows i y z inside
 
 -- A row was looked at, changed, and its key taken from it.
-pub renewed : (t : Table) (free : ℕ) (keys : List (Option ℕ)) → IsTied t free keys → (i : ℕ) → i < length t.blocks → (w x y z : BlockRow) → w ≡ get_or t.blocks i w → x ≡ get_or t.blocks i x → z ≡ get_or (set t.blocks i y) i z
+pub renewed : (t : Table) (free : ℕ) (keys : List (Option ℕ)) → IsTableSummary t free keys → (i : ℕ) → i < length t.blocks → (w x y z : BlockRow) → w ≡ get_or t.blocks i w → x ≡ get_or t.blocks i x → z ≡ get_or (set t.blocks i y) i z
     → (IsRow t.size x → IsRow t.size y) → (free2 : ℕ) (was now : Bool) → free2 + cond was 1 0 ≡ free + cond now 1 0 → was ≡ is_free w → now ≡ is_free y
-    → (keys2 : List (Option ℕ)) (key : Option ℕ) → keys2 ≡ set keys i key → key ≡ wear_if_free z → IsTied (record { first = t.first; size = t.size; blocks = set t.blocks i y }) free2 keys2
+    → (keys2 : List (Option ℕ)) (key : Option ℕ) → keys2 ≡ set keys i key → key ≡ wear_if_free z → IsTableSummary (record { first = t.first; size = t.size; blocks = set t.blocks i y }) free2 keys2
 renewed t free keys is i inside w x y z read_w read_x read_z stays free2 was now counted was_is now_is keys2 key keyed at =
     kept t free keys is i x y inside read_x stays free2 keys2 key
     (counted_by free free2 was now (is_free x) (is_free y) counted (was_is ∙ ap is_free (same_read t.blocks i w x inside read_w read_x)) now_is)
     keyed (at ∙ ap wear_if_free (read_set t.blocks i y z inside read_z))
 
 -- A row was changed to one that is not Free.
-pub sealed : (t : Table) (free : ℕ) (keys : List (Option ℕ)) → IsTied t free keys → (i : ℕ) → i < length t.blocks → (w x y : BlockRow) → w ≡ get_or t.blocks i w → x ≡ get_or t.blocks i x
+pub sealed : (t : Table) (free : ℕ) (keys : List (Option ℕ)) → IsTableSummary t free keys → (i : ℕ) → i < length t.blocks → (w x y : BlockRow) → w ≡ get_or t.blocks i w → x ≡ get_or t.blocks i x
     → (IsRow t.size x → IsRow t.size y) → (free2 : ℕ) (was : Bool) → free2 + cond was 1 0 ≡ free + 0 → was ≡ is_free w → is_free y ≡ false
-    → (keys2 : List (Option ℕ)) → keys2 ≡ set keys i None → IsTied (record { first = t.first; size = t.size; blocks = set t.blocks i y }) free2 keys2
+    → (keys2 : List (Option ℕ)) → keys2 ≡ set keys i None → IsTableSummary (record { first = t.first; size = t.size; blocks = set t.blocks i y }) free2 keys2
 sealed t free keys is i inside w x y read_w read_x stays free2 was counted was_is now_is keys2 keyed =
     kept t free keys is i x y inside read_x stays free2 keys2 None
     (counted_by free free2 was false (is_free x) (is_free y) counted (was_is ∙ ap is_free (same_read t.blocks i w x inside read_w read_x)) (sym now_is))
@@ -213,9 +213,9 @@ sealed_not_free Victim e = refl
 sealed_not_free (Retired names) e = refl
 
 -- A Free block was given out.
-pub given : (t : Table) (free : ℕ) (keys : List (Option ℕ)) → IsTied t free keys → (i : ℕ) → IsFirstLeast is_free wear_of t.blocks (length t.blocks) i → 1 ≤ free_count t → (x y : BlockRow) → x ≡ get_or t.blocks i x
+pub given : (t : Table) (free : ℕ) (keys : List (Option ℕ)) → IsTableSummary t free keys → (i : ℕ) → IsFirstLeast is_free wear_of t.blocks (length t.blocks) i → 1 ≤ free_count t → (x y : BlockRow) → x ≡ get_or t.blocks i x
     → (state : BlockState) → is_free_state state ≡ false → is_retired_state state ≡ false → y ≡ taken x state
-    → (keys2 : List (Option ℕ)) → keys2 ≡ set keys i None → IsTied (record { first = t.first; size = t.size; blocks = set t.blocks i y }) (free - 1) keys2
+    → (keys2 : List (Option ℕ)) → keys2 ≡ set keys i None → IsTableSummary (record { first = t.first; size = t.size; blocks = set t.blocks i y }) (free - 1) keys2
 given t free keys is i first some x y read state in_use idle e keys2 keyed =
     let inside = first.within in
     let was : is_free x ≡ true = ap is_free (read ∙ get_or_default t.blocks i x no_row inside) ∙ first.passes in
@@ -258,9 +258,9 @@ new_is_row : (size : ℕ) → IsRow size (new_row size)
 new_is_row size = record { pages = length-replicate size new_page; names = λ e. absurd (both_ways false refl e) }
 
 pub tied_new : (first count size n : ℕ) (keys : List (Option ℕ)) (rows : List BlockRow) → rows ≡ replicate n (new_row size) → n ≡ count → 0 < size → (first + count) * size < 2 ^ 32 → length keys ≡ count → ((k : ℕ) → k < n → key_at keys k ≡ Some 0)
-    → IsTied (record { first = first; size = size; blocks = rows }) count keys
+    → IsTableSummary (record { first = first; size = size; blocks = rows }) count keys
 tied_new first count size n keys rows are e some numbers places each =
-    subst (λ (rs : List BlockRow). IsTied (record { first = first; size = size; blocks = rs }) count keys) (sym (are ∙ ap (λ (k : ℕ). replicate k (new_row size)) e)) (record {
+    subst (λ (rs : List BlockRow). IsTableSummary (record { first = first; size = size; blocks = rs }) count keys) (sym (are ∙ ap (λ (k : ℕ). replicate k (new_row size)) e)) (record {
       table = record {
         some = some;
         numbers = rw (length-replicate count (new_row size)) numbers;

@@ -6,8 +6,8 @@ use Rattle.std.proofs.lemmas.List.{get_or-set_other, get_or-set_same, length-set
 use Rattle.nl_blocks.specs.declared.states.BlockState.{BlockState}
 use Rattle.nl_blocks.specs.declared.states.Page.{Page}
 use Rattle.nl_blocks.specs.declared.states.PageState.{PageState}
-use Rattle.nl_blocks.specs.Table.{BlockRow, Table, AreMarkedBefore, HasBlock, HasPage, IsNextPage, IsTable, block_at, new_page, page_at, taken, unmarked, with_block, with_mark, with_page}
-use Rattle.nl_blocks.specs.Used.{IsRisen, IsRising, SameUsed, first_unmarked, row_used, used_in}
+use Rattle.nl_blocks.specs.Table.{BlockRow, Table, AreMarkedBefore, HasBlock, HasPage, IsNextPage, IsBlockTable, block_at, new_page, page_at, taken, unmarked, with_block, with_mark, with_page}
+use Rattle.nl_blocks.specs.Used.{IsRisen, BlocksAreRisen, SameUsed, first_unmarked, row_used, used_in}
 use Rattle.nl_blocks.proofs.TableLaws.{block_at-with_block_other, block_at-with_block_same}
 use Rattle.nl_blocks.proofs.TableProofs.{row_size}
 
@@ -122,7 +122,7 @@ module _ (kind : BlockState → Bool) (t : Table) where
   unfolding used_in
   used-full block e = cond-false (kind (block_at t block).state) (first_unmarked (block_at t block).pages) t.size e
 
-  pub used-within : (block : ℕ) → IsTable t → HasBlock t block → used_in kind t block ≤ t.size
+  pub used-within : (block : ℕ) → IsBlockTable t → HasBlock t block → used_in kind t block ≤ t.size
   used-within block is has = by (cases_Bool (kind (block_at t block).state))
     where
       by : (kind (block_at t block).state ≡ true) ⊎ (kind (block_at t block).state ≡ false) → used_in kind t block ≤ t.size
@@ -155,7 +155,7 @@ module _ (kind : BlockState → Bool) (t : Table) where
         (λ differ. used-other other has_other differ)
         (cases_eq other block)
 
-    pub rising-with : IsRising kind t → (kind row.state ≡ true → IsRisen row.pages) → IsRising kind (with_block t block row)
+    pub rising-with : BlocksAreRisen kind t → (kind row.state ≡ true → IsRisen row.pages) → BlocksAreRisen kind (with_block t block row)
     rising-with rising here = record {
       each = λ other has_other is. ⊎_elim
           (λ e.
@@ -169,7 +169,7 @@ module _ (kind : BlockState → Bool) (t : Table) where
     }
 
 -- the next page of a block, by the number
-module _ (kind : BlockState → Bool) (t : Table) (is : IsTable t) (block : ℕ) (has : HasBlock t block) (open_is : kind (block_at t block).state ≡ true) where
+module _ (kind : BlockState → Bool) (t : Table) (is : IsBlockTable t) (block : ℕ) (has : HasBlock t block) (open_is : kind (block_at t block).state ≡ true) where
   -- a page by its place in the block
   page-of : (k : ℕ) → k < t.size → page_at t (block * t.size + k) ≡ get_or (block_at t block).pages k new_page
   page-of k below = rw (div-mul-add block t.size k below, mod-mul-add block t.size k below) refl
@@ -203,7 +203,7 @@ module _ (kind : BlockState → Bool) (t : Table) (is : IsTable t) (block : ℕ)
 -- ---- the calls
 
 -- a page of a block marked
-module _ (kind : BlockState → Bool) (t : Table) (is : IsTable t) (rising : IsRising kind t) (page : ℕ) (state : PageState) (has : HasPage t page) where
+module _ (kind : BlockState → Bool) (t : Table) (is : IsBlockTable t) (rising : BlocksAreRisen kind t) (page : ℕ) (state : PageState) (has : HasPage t page) where
   abbrev block : ℕ
   block = page / t.size
 
@@ -240,7 +240,7 @@ module _ (kind : BlockState → Bool) (t : Table) (is : IsTable t) (rising : IsR
     pub next-marks : used_in kind (with_page t page state) block ≡ used_in kind t block + 1
     next-marks = from-pages open_is ∙ (ap (λ (k : ℕ). first_unmarked (set pages k marked)) at ∙ (first-marks pages risen within marked refl ∙ ap (λ (n : ℕ). n + 1) (sym number)))
 
-    pub rising-marks : IsRising kind (with_page t page state)
+    pub rising-marks : BlocksAreRisen kind (with_page t page state)
     rising-marks = rising-with kind t block row has rising (λ e. subst (λ (k : ℕ). IsRisen (set pages k marked)) (sym at) (risen-marks pages risen within marked refl))
 
   -- a page that is used, or one of a block in another state
@@ -255,22 +255,22 @@ module _ (kind : BlockState → Bool) (t : Table) (is : IsTable t) (rising : IsR
             ∙ (first-again pages (page % t.size) (omega (arith, used, number)) marked refl ∙ sym (ap (λ (b : Bool). cond b (first_unmarked pages) t.size) e))
         by (inr e) = ap (λ (b : Bool). cond b (first_unmarked row.pages) t.size) e ∙ sym (ap (λ (b : Bool). cond b (first_unmarked pages) t.size) e)
 
-    pub rising-again : IsRising kind (with_page t page state)
+    pub rising-again : BlocksAreRisen kind (with_page t page state)
     rising-again = rising-with kind t block row has rising (λ e. let number = used-open kind t block e in risen-again pages (rising.each block has e) (page % t.size) (omega (arith, used, number)) marked refl)
 
 -- a block given out
-module _ (kind : BlockState → Bool) (t : Table) (rising : IsRising kind t) (block : ℕ) (state : BlockState) (has : HasBlock t block) where
+module _ (kind : BlockState → Bool) (t : Table) (rising : BlocksAreRisen kind t) (block : ℕ) (state : BlockState) (has : HasBlock t block) where
   abbrev given : Table
   given = with_block t block (taken (block_at t block) state)
 
   pub none-used : kind state ≡ true → used_in kind given block ≡ 0
   none-used e = used-here kind t block (taken (block_at t block) state) has ∙ (cond-true (kind state) (first_unmarked (map unmarked (block_at t block).pages)) t.size e ∙ first-taken (block_at t block).pages)
 
-  pub rising-given : IsRising kind given
+  pub rising-given : BlocksAreRisen kind given
   rising-given = rising-with kind t block (taken (block_at t block) state) has rising (λ e. risen-taken (block_at t block).pages)
 
 -- a block with the same pages, in another state or of another wear
-module _ (kind : BlockState → Bool) (t : Table) (rising : IsRising kind t) (block : ℕ) (row : BlockRow) (has : HasBlock t block) (same : row.pages ≡ (block_at t block).pages) where
+module _ (kind : BlockState → Bool) (t : Table) (rising : BlocksAreRisen kind t) (block : ℕ) (row : BlockRow) (has : HasBlock t block) (same : row.pages ≡ (block_at t block).pages) where
   -- in a state of another kind it is full
   pub all-used : kind row.state ≡ false → used_in kind (with_block t block row) block ≡ t.size
   all-used e = used-here kind t block row has ∙ cond-false (kind row.state) (first_unmarked row.pages) t.size e
@@ -280,5 +280,5 @@ module _ (kind : BlockState → Bool) (t : Table) (rising : IsRising kind t) (bl
   kind-used e = used-each kind t block row has (λ j. cond (e j) (first_unmarked (same j)) t.size)
 
   -- the block was not opened
-  pub rising-closed : (kind row.state ≡ true → kind (block_at t block).state ≡ true) → IsRising kind (with_block t block row)
+  pub rising-closed : (kind row.state ≡ true → kind (block_at t block).state ≡ true) → BlocksAreRisen kind (with_block t block row)
   rising-closed was = rising-with kind t block row has rising (λ e. subst IsRisen (sym same) (rising.each block has (was e)))

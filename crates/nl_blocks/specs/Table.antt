@@ -194,13 +194,13 @@ pub record IsRow (size : ℕ) (row : BlockRow) : Type 0 where
   pub pages : length row.pages ≡ size
   pub names : is_retired_state row.state ≡ true → 0 < names_of row.state
 
-pub record IsTable (t : Table) : Type 0 where
+pub record IsBlockTable (t : Table) : Type 0 where
   pub some : 0 < t.size
   pub numbers : (t.first + length t.blocks) * t.size < 2 ^ 32
   pub each : All (IsRow t.size) t.blocks
 
 -- What is kept of the table beside its rows: the number of Free blocks, and the wear of each.
-pub record IsTied (t : Table) (free : ℕ) (waiting : List (Option ℕ)) : Type 0 where
-  pub table : IsTable t
+pub record IsTableSummary (t : Table) (free : ℕ) (waiting : List (Option ℕ)) : Type 0 where
+  pub table : IsBlockTable t
   pub counted : free ≡ free_count t
   pub keyed : waiting ≡ map wear_if_free t.blocks

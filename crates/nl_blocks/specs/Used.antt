@@ -39,7 +39,7 @@ pub record IsRisen (pages : List Page) : Type 0 where
   pub behind : (k : ℕ) → first_unmarked pages ≤ k → (slice_index_or pages k new_page).marked ≡ false
 
 -- in each block in a state of this kind, no page behind the first one that is not marked is marked
-pub record IsRising (kind : BlockState → Bool) (t : Table) : Type 0 where
+pub record BlocksAreRisen (kind : BlockState → Bool) (t : Table) : Type 0 where
   pub each : (block : ℕ) → HasBlock t block → kind (block_at t block).state ≡ true → IsRisen (block_at t block).pages
 
 -- in another table as many pages of the block are used

@@ -1,6 +1,6 @@
 //! The table of the blocks of one segment.
 ghost use Rattle.std.specs.Prelude.{◌≡◌, ◌⊎◌, ℕ, ◌+◌, ◌-◌, ◌*◌, ◌/◌, ◌^◌, ◌<◌, ◌≤◌, ◌↔◌, length, true, cond, IfOk, IfSome, IfNone, IsNone, IsSome, IsTrue};
-ghost use Rattle.nl_blocks.specs.Table.{BestOf, HasBlock, HasPage, IsLeastWornFree, IsNextPage, IsTable, after_erase, block_at, dead_count, erased_row, free_count, in_state, is_free, is_retired_state, is_sealed_state, is_free_state, names_of, new_table, page_at, taken, wear_of, with_block, with_page, worn_row};
+ghost use Rattle.nl_blocks.specs.Table.{BestOf, HasBlock, HasPage, IsLeastWornFree, IsNextPage, IsBlockTable, after_erase, block_at, dead_count, erased_row, free_count, in_state, is_free, is_retired_state, is_sealed_state, is_free_state, names_of, new_table, page_at, taken, wear_of, with_block, with_page, worn_row};
 
 use crate::Memory;
 use crate::row::{Block, state_with};
@@ -23,13 +23,13 @@ pub struct Blocks {
 }
 
 impl Model for Blocks {
-    ghost use Rattle.nl_blocks.specs.Table.{Table, IsTied};
+    ghost use Rattle.nl_blocks.specs.Table.{Table, IsTableSummary};
 
     ghost Value = { Table };
 
     ghost view = { λ b. record { first = b.first; size = b.size; blocks = b.blocks.items } };
 
-    ghost invariant = { λ b. IsTied (record { first = b.first; size = b.size; blocks = b.blocks.items }) b.free b.waiting };
+    ghost invariant = { λ b. IsTableSummary (record { first = b.first; size = b.size; blocks = b.blocks.items }) b.free b.waiting };
 }
 
 impl Blocks {
@@ -65,7 +65,7 @@ impl Blocks {
     /// The number of blocks.
     pub fn count(&self) -> u32
         ensures value { result ≡ length self.now.blocks }
-        ensures table { IsTable self.now }
+        ensures table { IsBlockTable self.now }
     {
         self.blocks.len() as u32
     }

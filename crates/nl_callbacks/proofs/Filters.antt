@@ -4,7 +4,7 @@ use Rattle.std.specs.Prelude.{filter}
 use Rattle.std.proofs.lemmas.Bool.{ne_eqb, le-leb, lt-leb, lt-ltb}
 use Rattle.std.proofs.lemmas.List.Sums.{sum_by-cons}
 use Rattle.nl_callbacks.specs.declared.entry.Entry.{Entry}
-use Rattle.nl_callbacks.specs.Pending.{PendingTable, Acknowledges, Cancels, IsName, IsTable, beside_name, beside_stamp, entry_at, is_over, number_of, place_of, unacknowledged}
+use Rattle.nl_callbacks.specs.Pending.{PendingTable, AcknowledgesName, Cancels, IsName, ArePendingEntries, beside_name, beside_stamp, entry_at, is_over, number_of, place_of, unacknowledged}
 
 -- an item that does not pass is taken out
 pub filter_remove : (p : Entry → Bool) (es : List Entry) (at : ℕ) → at < length es → p (entry_at es at) ≡ false → filter p (remove es at) ≡ filter p es
@@ -22,7 +22,7 @@ over_not : (upto : ℕ) (o : Option ℕ) → ((transaction : ℕ) → o ≡ Some
 over_not upto None later = refl
 over_not upto (Some transaction) later = ap not (lt-leb transaction upto (later transaction refl))
 
-pub acknowledged_over : {old new : PendingTable} {upto name : ℕ} → Acknowledges old new upto name → unacknowledged upto new.callbacks ≡ unacknowledged upto old.callbacks
+pub acknowledged_over : {old new : PendingTable} {upto name : ℕ} → AcknowledgesName old new upto name → unacknowledged upto new.callbacks ≡ unacknowledged upto old.callbacks
 acknowledged_over {old} {new} {upto} {name} is =
     ap (λ (t : PendingTable). unacknowledged upto t.callbacks) is.gone
     ∙ filter_remove (λ e. not (is_over upto e.transaction)) old.callbacks is.at is.within
@@ -55,6 +55,6 @@ all_counted (e ∷ es) number each =
     let rest : place_of es number ≡ length es = all_counted es number (λ i within. each (suc i) (omega arith)) in
     rw (sum_by-cons (λ (x : Entry). cond (nat_lt (number_of x) number) 1 0) e es, here) (omega arith)
 
-pub appended : (es : List Entry) (posted number : ℕ) (e : Entry) → IsTable es posted → number ≡ posted + 1 → insert es (place_of es number) e ≡ es ++ e ∷ []
+pub appended : (es : List Entry) (posted number : ℕ) (e : Entry) → ArePendingEntries es posted → number ≡ posted + 1 → insert es (place_of es number) e ≡ es ++ e ∷ []
 appended es posted number e is next =
     ap (λ k. insert es k e) (all_counted es number (λ i within. let given = is.given i within in omega (arith, given.1, next))) ∙ insert_end es e

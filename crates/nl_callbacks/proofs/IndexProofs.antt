@@ -6,10 +6,10 @@ use Rattle.std.proofs.lemmas.List.{length-set}
 use Rattle.nl_iface.specs.declared.Callback.{Callback}
 use Rattle.nl_callbacks.specs.declared.entry.Entry.{Entry}
 use Rattle.nl_callbacks.specs.declared.links.Link.{Link}
-use Rattle.nl_callbacks.specs.Links.{link, no_link, link_at, HasLink, rank, IsRising}
-use Rattle.nl_callbacks.specs.Lists.{Rises, IsPlace}
+use Rattle.nl_callbacks.specs.Links.{link, no_link, link_at, HasLink, rank, AreRisingLinks}
+use Rattle.nl_callbacks.specs.Lists.{Rises, IsInsertionPoint}
 use Rattle.nl_callbacks.specs.Pending.{entry_at, no_entry, number_of, IsPending, place_of}
-use Rattle.nl_callbacks.specs.Kept.{IsIndex, IsKept, name_key, waiting_key, done_key, waiting_of, done_of}
+use Rattle.nl_callbacks.specs.Kept.{IsIndex, AreIndexed, name_key, waiting_key, done_key, waiting_of, done_of}
 use Rattle.nl_callbacks.proofs.ListsProofs.{at_is, SomeAt-insert_kept, SomeAt-insert_new, SomeAt-insert_back, SomeAt-remove_back, SomeAt-remove_kept, Rises-remove, Rises-insert, Rises-set, EachAt-remove, EachAt-insert, once, place_has, place_lacks, insert-remove, count_place}
 
 same_rank : (x y : Link) → x.number < 2 ^ 64 → y.number < 2 ^ 64 → rank x ≡ rank y → x ≡ y
@@ -20,13 +20,13 @@ same_rank x y p q e = ⊎_elim
     (λ apart. absurd (⊎_elim (λ less. omega arith) (λ more. omega arith) apart))
     (cases_order x.key y.key)
 
-pub IsRising-remove : (xs : List Link) (at : ℕ) → at < length xs → IsRising xs → IsRising (remove xs at)
+pub IsRising-remove : (xs : List Link) (at : ℕ) → at < length xs → AreRisingLinks xs → AreRisingLinks (remove xs at)
 IsRising-remove xs at bound rising = record {
   order = Rises-remove rank no_link xs at bound rising.order;
   fits = EachAt-remove (λ (x : Link). x.number < 2 ^ 64) no_link xs at bound rising.fits;
 }
 
-IsRising-insert : (xs : List Link) (at : ℕ) (y : Link) → IsRising xs → y.number < 2 ^ 64 → IsPlace rank no_link xs (rank y) at → (HasLink xs y → ⊥) → IsRising (insert xs at y)
+IsRising-insert : (xs : List Link) (at : ℕ) (y : Link) → AreRisingLinks xs → y.number < 2 ^ 64 → IsInsertionPoint rank no_link xs (rank y) at → (HasLink xs y → ⊥) → AreRisingLinks (insert xs at y)
 IsRising-insert xs at y rising fits place lacks = record {
   order = Rises-insert rank no_link xs at y place.bound rising.order place.below
       (place_lacks rank no_link xs (rank y) at place (λ i within same. lacks (i, within, same_rank (link_at xs i) y (rising.fits i within) fits same)));
@@ -44,7 +44,7 @@ abbrev pub TellsNumber : (Entry → Option Link) → Type 0
 TellsNumber key = (e : Entry) (x : Link) → key e ≡ Some x → x.number ≡ number_of e
 
 pub index_insert_link : (key : Entry → Option Link) (es : List Entry) (links : List Link) (at j : ℕ) (e : Entry) (x : Link) → IsIndex key es links → at ≤ length es
-    → key e ≡ Some x → x.number < 2 ^ 64 → IsPlace rank no_link links (rank x) j → (HasLink links x → ⊥) → IsIndex key (insert es at e) (insert links j x)
+    → key e ≡ Some x → x.number < 2 ^ 64 → IsInsertionPoint rank no_link links (rank x) j → (HasLink links x → ⊥) → IsIndex key (insert es at e) (insert links j x)
 index_insert_link key es links at j e x is bound keyed fits place lacks = record {
   rising = IsRising-insert links j x is.rising fits place lacks;
   there = λ y has. ⊎_elim
@@ -121,7 +121,7 @@ index_same key es links at e is bound same =
     }
 
 -- the link of an entry stands at its place
-pub link_found : (key : Entry → Option Link) (es : List Entry) (links : List Link) (at j : ℕ) (x : Link) → IsIndex key es links → at < length es → key (entry_at es at) ≡ Some x → IsPlace rank no_link links (rank x) j → (j < length links) × (link_at links j ≡ x)
+pub link_found : (key : Entry → Option Link) (es : List Entry) (links : List Link) (at j : ℕ) (x : Link) → IsIndex key es links → at < length es → key (entry_at es at) ≡ Some x → IsInsertionPoint rank no_link links (rank x) j → (j < length links) × (link_at links j ≡ x)
 link_found key es links at j x is bound keyed place =
     let there = is.there x (at, bound, keyed) in
     let same : there.0 ≡ j = place_has rank no_link links (rank x) j there.0 is.rising.order place there.1 (ap rank there.2) in
@@ -151,18 +151,18 @@ lacks key es links x tells is fresh has =
     fresh (there.0, there.1, sym (tells (entry_at es there.0) x there.2))
 
 -- the place of a number is the number of lesser ones
-pub place_counts : (es : List Entry) (n at : ℕ) → IsPlace number_of no_entry es n at → place_of es n ≡ at
+pub place_counts : (es : List Entry) (n at : ℕ) → IsInsertionPoint number_of no_entry es n at → place_of es n ≡ at
 place_counts es n at place = count_place (λ e. nat_lt (number_of e) n) no_entry es at place.bound
     (λ i less. lt-ltb _ _ (place.below i less)) (λ i from within. le-ltb _ _ (place.above i from within))
 
-pub kept_add : (es es' : List Entry) (ns ns' ws ws' ds : List Link) (at j k : ℕ) (cb : Callback) → IsKept es ns ws ds → (IsPending es cb.number → ⊥) → cb.number < 2 ^ 64
-    → IsPlace rank no_link ns (cb.before * 2 ^ 64 + cb.number) j → ns' ≡ insert ns j (link cb.before cb.number)
-    → IsPlace rank no_link ws (0 * 2 ^ 64 + cb.number) k → ws' ≡ insert ws k (link 0 cb.number)
-    → IsPlace number_of no_entry es cb.number at → es' ≡ insert es at (record { callback = cb; transaction = None })
-    → IsKept es' ns' ws' ds
+pub kept_add : (es es' : List Entry) (ns ns' ws ws' ds : List Link) (at j k : ℕ) (cb : Callback) → AreIndexed es ns ws ds → (IsPending es cb.number → ⊥) → cb.number < 2 ^ 64
+    → IsInsertionPoint rank no_link ns (cb.before * 2 ^ 64 + cb.number) j → ns' ≡ insert ns j (link cb.before cb.number)
+    → IsInsertionPoint rank no_link ws (0 * 2 ^ 64 + cb.number) k → ws' ≡ insert ws k (link 0 cb.number)
+    → IsInsertionPoint number_of no_entry es cb.number at → es' ≡ insert es at (record { callback = cb; transaction = None })
+    → AreIndexed es' ns' ws' ds
 kept_add es es' ns ns' ws ws' ds at j k cb is fresh fits pn n pw w place e =
     let new : Entry = record { callback = cb; transaction = None } in
-    let kept : IsKept (insert es at new) (insert ns j (link cb.before cb.number)) (insert ws k (link 0 cb.number)) ds = record {
+    let kept : AreIndexed (insert es at new) (insert ns j (link cb.before cb.number)) (insert ws k (link 0 cb.number)) ds = record {
       rising = Rises-insert number_of no_entry es at new place.bound is.rising place.below (place_lacks number_of no_entry es cb.number at place (λ i within same. fresh (i, within, same)));
       by_name = index_insert_link name_key es ns at j new (link cb.before cb.number) is.by_name place.bound refl fits pn (lacks name_key es ns (link cb.before cb.number) tells_name is.by_name fresh);
       not_handled = index_insert_link waiting_key es ws at k new (link 0 cb.number) is.not_handled place.bound refl fits pw (lacks waiting_key es ws (link 0 cb.number) tells_waiting is.not_handled fresh);
@@ -181,25 +181,25 @@ waiting_keyed es at e here free = ap (λ (o : Option ℕ). waiting_of o (number_
 done_keyed : (es : List Entry) (at t : ℕ) (e : Entry) → entry_at es at ≡ e → (entry_at es at).transaction ≡ Some t → done_key (entry_at es at) ≡ Some (link t e.callback.number)
 done_keyed es at t e here by = ap (λ (o : Option ℕ). done_of o (number_of (entry_at es at))) by ∙ ap (λ (f : Entry). Some (link t f.callback.number)) here
 
-pub name_found : (es : List Entry) (ns ws ds : List Link) (at j : ℕ) (e : Entry) → IsKept es ns ws ds → at < length es → e ≡ get_or es at e → IsPlace rank no_link ns (e.callback.before * 2 ^ 64 + e.callback.number) j
+pub name_found : (es : List Entry) (ns ws ds : List Link) (at j : ℕ) (e : Entry) → AreIndexed es ns ws ds → at < length es → e ≡ get_or es at e → IsInsertionPoint rank no_link ns (e.callback.before * 2 ^ 64 + e.callback.number) j
     → (j < length ns) × (link_at ns j ≡ link e.callback.before e.callback.number)
 name_found es ns ws ds at j e is bound there place = link_found name_key es ns at j (link e.callback.before e.callback.number) is.by_name bound (name_keyed es at e (at_is no_entry es at e bound there)) place
 
-pub waiting_found : (es : List Entry) (ns ws ds : List Link) (at k : ℕ) (e : Entry) → IsKept es ns ws ds → at < length es → e ≡ get_or es at e → (entry_at es at).transaction ≡ None → IsPlace rank no_link ws (0 * 2 ^ 64 + e.callback.number) k
+pub waiting_found : (es : List Entry) (ns ws ds : List Link) (at k : ℕ) (e : Entry) → AreIndexed es ns ws ds → at < length es → e ≡ get_or es at e → (entry_at es at).transaction ≡ None → IsInsertionPoint rank no_link ws (0 * 2 ^ 64 + e.callback.number) k
     → (k < length ws) × (link_at ws k ≡ link 0 e.callback.number)
 waiting_found es ns ws ds at k e is bound there free place = link_found waiting_key es ws at k (link 0 e.callback.number) is.not_handled bound (waiting_keyed es at e (at_is no_entry es at e bound there) free) place
 
-pub done_found : (es : List Entry) (ns ws ds : List Link) (at m t : ℕ) (e : Entry) → IsKept es ns ws ds → at < length es → e ≡ get_or es at e → (entry_at es at).transaction ≡ Some t → IsPlace rank no_link ds (t * 2 ^ 64 + e.callback.number) m
+pub done_found : (es : List Entry) (ns ws ds : List Link) (at m t : ℕ) (e : Entry) → AreIndexed es ns ws ds → at < length es → e ≡ get_or es at e → (entry_at es at).transaction ≡ Some t → IsInsertionPoint rank no_link ds (t * 2 ^ 64 + e.callback.number) m
     → (m < length ds) × (link_at ds m ≡ link t e.callback.number)
 done_found es ns ws ds at m t e is bound there by place = link_found done_key es ds at m (link t e.callback.number) is.by_transaction bound (done_keyed es at t e (at_is no_entry es at e bound there) by) place
 
-pub kept_drop_waiting : (es es' : List Entry) (ns ns' ws ws' ds : List Link) (at j k : ℕ) (e : Entry) → IsKept es ns ws ds → at < length es → e ≡ get_or es at e → (entry_at es at).transaction ≡ None
-    → IsPlace rank no_link ns (e.callback.before * 2 ^ 64 + e.callback.number) j → ns' ≡ remove ns j → IsPlace rank no_link ws (0 * 2 ^ 64 + e.callback.number) k → ws' ≡ remove ws k → es' ≡ remove es at → IsKept es' ns' ws' ds
+pub kept_drop_waiting : (es es' : List Entry) (ns ns' ws ws' ds : List Link) (at j k : ℕ) (e : Entry) → AreIndexed es ns ws ds → at < length es → e ≡ get_or es at e → (entry_at es at).transaction ≡ None
+    → IsInsertionPoint rank no_link ns (e.callback.before * 2 ^ 64 + e.callback.number) j → ns' ≡ remove ns j → IsInsertionPoint rank no_link ws (0 * 2 ^ 64 + e.callback.number) k → ws' ≡ remove ws k → es' ≡ remove es at → AreIndexed es' ns' ws' ds
 kept_drop_waiting es es' ns ns' ws ws' ds at j k e is bound there free pn n pw w gone =
     let here = at_is no_entry es at e bound there in
     let fn = name_found es ns ws ds at j e is bound there pn in
     let fw = waiting_found es ns ws ds at k e is bound there free pw in
-    let kept : IsKept (remove es at) (remove ns j) (remove ws k) ds = record {
+    let kept : AreIndexed (remove es at) (remove ns j) (remove ws k) ds = record {
       rising = Rises-remove number_of no_entry es at bound is.rising;
       by_name = index_remove_link name_key es ns at j (link e.callback.before e.callback.number) tells_name is.rising is.by_name bound (name_keyed es at e here) fn.0 fn.1;
       not_handled = index_remove_link waiting_key es ws at k (link 0 e.callback.number) tells_waiting is.rising is.not_handled bound (waiting_keyed es at e here free) fw.0 fw.1;
@@ -209,13 +209,13 @@ kept_drop_waiting es es' ns ns' ws ws' ds at j k e is bound there free pn n pw w
     } in
     rw (gone, n, w) kept
 
-pub kept_drop_done : (es es' : List Entry) (ns ns' ws ds ds' : List Link) (at j m t : ℕ) (e : Entry) → IsKept es ns ws ds → at < length es → e ≡ get_or es at e → (entry_at es at).transaction ≡ Some t
-    → IsPlace rank no_link ns (e.callback.before * 2 ^ 64 + e.callback.number) j → ns' ≡ remove ns j → IsPlace rank no_link ds (t * 2 ^ 64 + e.callback.number) m → ds' ≡ remove ds m → es' ≡ remove es at → IsKept es' ns' ws ds'
+pub kept_drop_done : (es es' : List Entry) (ns ns' ws ds ds' : List Link) (at j m t : ℕ) (e : Entry) → AreIndexed es ns ws ds → at < length es → e ≡ get_or es at e → (entry_at es at).transaction ≡ Some t
+    → IsInsertionPoint rank no_link ns (e.callback.before * 2 ^ 64 + e.callback.number) j → ns' ≡ remove ns j → IsInsertionPoint rank no_link ds (t * 2 ^ 64 + e.callback.number) m → ds' ≡ remove ds m → es' ≡ remove es at → AreIndexed es' ns' ws ds'
 kept_drop_done es es' ns ns' ws ds ds' at j m t e is bound there by pn n pd d gone =
     let here = at_is no_entry es at e bound there in
     let fn = name_found es ns ws ds at j e is bound there pn in
     let fd = done_found es ns ws ds at m t e is bound there by pd in
-    let kept : IsKept (remove es at) (remove ns j) ws (remove ds m) = record {
+    let kept : AreIndexed (remove es at) (remove ns j) ws (remove ds m) = record {
       rising = Rises-remove number_of no_entry es at bound is.rising;
       by_name = index_remove_link name_key es ns at j (link e.callback.before e.callback.number) tells_name is.rising is.by_name bound (name_keyed es at e here) fn.0 fn.1;
       not_handled = index_remove_none waiting_key es ws at is.not_handled bound (ap (λ (o : Option ℕ). waiting_of o (number_of (entry_at es at))) by);
@@ -225,9 +225,9 @@ kept_drop_done es es' ns ns' ws ds ds' at j m t e is bound there by pn n pd d go
     } in
     rw (gone, n, d) kept
 
-pub kept_mark : (es : List Entry) (ns ws ws' ds ds' : List Link) (at k m t : ℕ) (e : Entry) → IsKept es ns ws ds → at < length es → e ≡ get_or es at e → (entry_at es at).transaction ≡ None
-    → IsPlace rank no_link ws (0 * 2 ^ 64 + e.callback.number) k → ws' ≡ remove ws k → IsPlace rank no_link ds (t * 2 ^ 64 + e.callback.number) m → ds' ≡ insert ds m (link t e.callback.number)
-    → IsKept (set es at (record { callback = e.callback; transaction = Some t })) ns ws' ds'
+pub kept_mark : (es : List Entry) (ns ws ws' ds ds' : List Link) (at k m t : ℕ) (e : Entry) → AreIndexed es ns ws ds → at < length es → e ≡ get_or es at e → (entry_at es at).transaction ≡ None
+    → IsInsertionPoint rank no_link ws (0 * 2 ^ 64 + e.callback.number) k → ws' ≡ remove ws k → IsInsertionPoint rank no_link ds (t * 2 ^ 64 + e.callback.number) m → ds' ≡ insert ds m (link t e.callback.number)
+    → AreIndexed (set es at (record { callback = e.callback; transaction = Some t })) ns ws' ds'
 kept_mark es ns ws ws' ds ds' at k m t e is bound there free pw w pd d =
     let here = at_is no_entry es at e bound there in
     let new : Entry = record { callback = e.callback; transaction = Some t } in
@@ -248,7 +248,7 @@ kept_mark es ns ws ws' ds ds' at k m t e is bound there free pw w pd d =
     let waits : IsIndex waiting_key (insert (remove es at) at new) (remove ws k) = index_insert_none waiting_key (remove es at) (remove ws k) at new left within refl in
     let handled : IsIndex done_key (insert (remove es at) at new) (insert ds m (link t e.callback.number)) = index_insert_link done_key (remove es at) ds at m new (link t e.callback.number) gone within refl fits pd fresh in
     let long = length-set es at new in
-    let kept : IsKept (set es at new) ns (remove ws k) (insert ds m (link t e.callback.number)) = record {
+    let kept : AreIndexed (set es at new) ns (remove ws k) (insert ds m (link t e.callback.number)) = record {
       rising = Rises-set number_of no_entry es at new bound (ap number_of (sym here)) is.rising;
       by_name = subst (λ (l : List Entry). IsIndex name_key l ns) marks named;
       not_handled = subst (λ (l : List Entry). IsIndex waiting_key l (remove ws k)) marks waits;

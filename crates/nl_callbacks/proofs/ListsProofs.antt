@@ -5,7 +5,7 @@ use Rattle.std.proofs.lemmas.List.{get_or_default, length-set, get_or-set_same, 
 use Rattle.std.proofs.lemmas.Bool.{cases_eq, cases_lt, cases_order}
 use Rattle.std.proofs.lemmas.List.Sums.{sum_by-cons}
 use Rattle.std.proofs.lemmas.List.Edits.{length-insert, length-remove, get_or-insert_below, get_or-insert_at, get_or-insert_above, get_or-remove_below, get_or-remove_above}
-use Rattle.nl_callbacks.specs.Lists.{Rises, IsPlace}
+use Rattle.nl_callbacks.specs.Lists.{Rises, IsInsertionPoint}
 
 -- what a search by halving keeps: the place lies from `low` to `high`
 pub record Halving {X : Type 0} (rank : X → ℕ) (d : X) (xs : List X) (n low high : ℕ) : Type 0 where
@@ -168,7 +168,7 @@ once f d xs up i j p q same =
     ⊎_elim (λ eq. eq) (λ apart. absurd (⊎_elim (λ less. let step = up i j less q in omega arith) (λ more. let step = up j i more p in omega arith) apart)) (cases_order i j)
 
 -- an item of that rank stands at its place
-pub place_has : {X : Type 0} (f : X → ℕ) (d : X) (xs : List X) (n at i : ℕ) → Rises f d xs → IsPlace f d xs n at → i < length xs → f (get_or xs i d) ≡ n → i ≡ at
+pub place_has : {X : Type 0} (f : X → ℕ) (d : X) (xs : List X) (n at i : ℕ) → Rises f d xs → IsInsertionPoint f d xs n at → i < length xs → f (get_or xs i d) ≡ n → i ≡ at
 place_has f d xs n at i up place within is = ⊎_elim
     (λ same. same)
     (λ apart. absurd (⊎_elim
@@ -177,7 +177,7 @@ place_has f d xs n at i up place within is = ⊎_elim
     (cases_order i at)
 
 -- where no item has that rank, those from its place on rank above
-pub place_lacks : {X : Type 0} (f : X → ℕ) (d : X) (xs : List X) (n at : ℕ) → IsPlace f d xs n at → ((i : ℕ) → i < length xs → f (get_or xs i d) ≡ n → ⊥) → (i : ℕ) → at ≤ i → i < length xs → n < f (get_or xs i d)
+pub place_lacks : {X : Type 0} (f : X → ℕ) (d : X) (xs : List X) (n at : ℕ) → IsInsertionPoint f d xs n at → ((i : ℕ) → i < length xs → f (get_or xs i d) ≡ n → ⊥) → (i : ℕ) → at ≤ i → i < length xs → n < f (get_or xs i d)
 place_lacks f d xs n at place lacks i from within = ⊎_elim
     (λ same. absurd (lacks i within (sym same)))
     (λ apart. ⊎_elim (λ less. less) (λ more. let high = place.above i from within in absurd (omega arith)) apart)

@@ -5,7 +5,7 @@ use lib.ListN.{get_elem?}
 use Rattle.crossbeam_queue.specs.Fifo.{Pushes, Pops, Forks, Merges, Learns}
 use Rattle.crossbeam_queue.proofs.Lists.{at_set, at_snoc}
 use Rattle.nl_callbacks.specs.declared.notices.NoticeLog.{NoticeLog}
-use Rattle.nl_callbacks.specs.Notices.{log, IsFront, IsBack, Fits, Relayed}
+use Rattle.nl_callbacks.specs.Notices.{log, IsFront, IsBack, FitsNoticeLog, Relayed}
 
 at_end : (l : List NoticeLog) (a b : NoticeLog) (j : ℕ) → get_elem? l j ≢ some b → get_elem? (l ++ a ∷ []) j ≡ some b → j ≡ length l
 at_end [] a b zero n e = refl
@@ -42,7 +42,7 @@ begins = record {
   all_sent = [];
   all_taken = [];
   in_order = refl;
-  each = each_set (Fits 0 0 [] []) (log true true [] [] [] ∷ []) 0 (log true true [] [] []) (record { sends = λ _. (refl, refl); takes = λ _. (refl, refl); knows = front_none [] })
+  each = each_set (FitsNoticeLog 0 0 [] []) (log true true [] [] [] ∷ []) 0 (log true true [] [] []) (record { sends = λ _. (refl, refl); takes = λ _. (refl, refl); knows = front_none [] })
       (λ j u other e. absurd (other (at_end [] _ u j (λ x. some-ne-none u (sym x)) e)));
 }
 
@@ -58,7 +58,7 @@ sends n port v x may items views _ h at =
         all_sent = all_sent;
         all_taken = h.all_taken;
         in_order = ap (λ l. l ++ x ∷ []) h.in_order ∙ append_assoc h.all_taken items (x ∷ []);
-        each = each_set (Fits h.writer h.reader all_sent h.all_taken) views port w
+        each = each_set (FitsNoticeLog h.writer h.reader all_sent h.all_taken) views port w
             (record { sends = λ _. ((mine.sends may).0, ap (λ l. l ++ x ∷ []) (mine.sends may).1); takes = mine.takes; knows = front_more x mine.knows })
             (λ j u other e. let theirs = h.each j u e in
             record { sends = λ p. absurd (other ((theirs.sends p).0 ∙ sym (mine.sends may).0)); takes = theirs.takes; knows = front_more x theirs.knows });
@@ -78,7 +78,7 @@ takes port v may x items views h at =
         all_sent = h.all_sent;
         all_taken = all_taken;
         in_order = h.in_order ∙ sym (append_assoc h.all_taken (x ∷ []) items);
-        each = each_set (Fits h.writer h.reader h.all_sent all_taken) views port w
+        each = each_set (FitsNoticeLog h.writer h.reader h.all_sent all_taken) views port w
             (record { sends = mine.sends; takes = λ _. ((mine.takes may).0, ap (λ l. l ++ x ∷ []) (mine.takes may).1); knows = mine.knows })
             (λ j u other e. let theirs = h.each j u e in
             record { sends = theirs.sends; takes = λ p. absurd (other ((theirs.takes p).0 ∙ sym (mine.takes may).0)); knows = theirs.knows });
@@ -118,7 +118,7 @@ merges port v other u a b items views h at two at' =
     let vs : List NoticeLog = set views port both in
     let was : get_elem? views other ≡ some u = ⊎_elim (λ x. absurd (two x.0)) (λ x. x.1) (at_set views port other both u at') in
     let theirs = (h.each other u was).takes b in
-    let Now : ℕ → NoticeLog → Type 0 = λ j y. j ≢ other → Fits h.writer port h.all_sent h.all_taken j y in
+    let Now : ℕ → NoticeLog → Type 0 = λ j y. j ≢ other → FitsNoticeLog h.writer port h.all_sent h.all_taken j y in
     let now : EachView Now vs = each_set Now views port both (λ _. record { sends = λ _. mine.sends a; takes = λ _. (refl, theirs.1); knows = front_none h.all_sent })
     (λ j y _ e apart. let t = h.each j y e in record { sends = t.sends; takes = λ p. absurd (apart ((t.takes p).0 ∙ sym theirs.0)); knows = t.knows }) in
     record {
@@ -127,7 +127,7 @@ merges port v other u a b items views h at two at' =
       all_sent = h.all_sent;
       all_taken = h.all_taken;
       in_order = h.in_order;
-      each = each_set (Fits h.writer port h.all_sent h.all_taken) vs other (log false false [] [] [])
+      each = each_set (FitsNoticeLog h.writer port h.all_sent h.all_taken) vs other (log false false [] [] [])
           (record { sends = λ p. absurd (true≢false (sym p)); takes = λ p. absurd (true≢false (sym p)); knows = front_none h.all_sent })
           (λ j y apart e. now j y e apart);
     }

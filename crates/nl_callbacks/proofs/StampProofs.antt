@@ -7,9 +7,9 @@ use Rattle.nl_iface.specs.declared.Callback.{Callback}
 use Rattle.nl_callbacks.specs.declared.entry.Entry.{Entry}
 use Rattle.nl_callbacks.specs.declared.links.Link.{Link}
 use Rattle.nl_callbacks.specs.Links.{link, no_link, link_at, rank}
-use Rattle.nl_callbacks.specs.Lists.{IsPlace, Rises}
+use Rattle.nl_callbacks.specs.Lists.{IsInsertionPoint, Rises}
 use Rattle.nl_callbacks.specs.Pending.{IsPending, entry_at, no_entry, number_of, place_of}
-use Rattle.nl_callbacks.specs.Kept.{IsIndex, IsInside, IsKept, IsStamped, stamp_key}
+use Rattle.nl_callbacks.specs.Kept.{IsIndex, IsInside, AreIndexed, IsStamped, stamp_key}
 use Rattle.nl_callbacks.proofs.ListsProofs.{EachAt-insert, at_is, insert-remove}
 use Rattle.nl_callbacks.proofs.IndexProofs.{TellsNumber, index_insert_link, index_remove_link, index_same, lacks, link_found, some_same}
 
@@ -32,7 +32,7 @@ place_bounded (e ∷ es) n =
     omega (arith, rest, here, sum)
 
 pub stamped_add : (es es' : List Entry) (ss ss' : List Link) (j : ℕ) (cb : Callback) → IsStamped es ss → (IsPending es cb.number → ⊥) → cb.number < 2 ^ 64
-    → IsPlace rank no_link ss (cb.stamp * 2 ^ 64 + cb.number) j → ss' ≡ insert ss j (link cb.stamp cb.number)
+    → IsInsertionPoint rank no_link ss (cb.stamp * 2 ^ 64 + cb.number) j → ss' ≡ insert ss j (link cb.stamp cb.number)
     → es' ≡ insert es (place_of es cb.number) (record { callback = cb; transaction = None }) → IsStamped es' ss'
 stamped_add es es' ss ss' j cb is fresh fits ps s e =
     let new : Entry = record { callback = cb; transaction = None } in
@@ -46,7 +46,7 @@ stamped_add es es' ss ss' j cb is fresh fits ps s e =
     rw (e, s) stamped
 
 pub inside_add : (room posted later : ℕ) (es es' : List Entry) (ns ns' ws ws' ds ss ss' : List Link) (cb : Callback) (a a' b b' c c' d e e' : ℕ) → IsInside room posted es ns ws ds ss a b c d e → length es < room
-    → IsKept es' ns' ws' ds → IsStamped es' ss' → es' ≡ insert es (place_of es cb.number) (record { callback = cb; transaction = None }) → posted ≤ later → 0 < cb.number → cb.number ≤ later → a ≤ a' → b ≤ b' → c ≤ c' → e ≤ e'
+    → AreIndexed es' ns' ws' ds → IsStamped es' ss' → es' ≡ insert es (place_of es cb.number) (record { callback = cb; transaction = None }) → posted ≤ later → 0 < cb.number → cb.number ≤ later → a ≤ a' → b ≤ b' → c ≤ c' → e ≤ e'
     → IsInside room later es' ns' ws' ds ss' a' b' c' d e'
 inside_add room posted later es es' ns ns' ws ws' ds ss ss' cb a a' b b' c c' d e e' is few kept stamped items more some given p q r t =
     let new : Entry = record { callback = cb; transaction = None } in
@@ -67,12 +67,12 @@ inside_add room posted later es es' ns ns' ws ws' ds ss ss' cb a a' b b' c c' d 
       stamps_room = omega (arith, is.stamps_room);
     }
 
-pub stamp_found : (es : List Entry) (ss : List Link) (at j : ℕ) (e : Entry) → IsStamped es ss → at < length es → e ≡ get_or es at e → IsPlace rank no_link ss (e.callback.stamp * 2 ^ 64 + e.callback.number) j
+pub stamp_found : (es : List Entry) (ss : List Link) (at j : ℕ) (e : Entry) → IsStamped es ss → at < length es → e ≡ get_or es at e → IsInsertionPoint rank no_link ss (e.callback.stamp * 2 ^ 64 + e.callback.number) j
     → (j < length ss) × (link_at ss j ≡ link e.callback.stamp e.callback.number)
 stamp_found es ss at j e is bound there place = link_found stamp_key es ss at j (link e.callback.stamp e.callback.number) is.by_stamp bound (stamp_keyed es at e (at_is no_entry es at e bound there)) place
 
 pub stamped_drop : (es es' : List Entry) (ss ss' : List Link) (at j : ℕ) (e : Entry) → IsStamped es ss → Rises number_of no_entry es → at < length es → e ≡ get_or es at e
-    → IsPlace rank no_link ss (e.callback.stamp * 2 ^ 64 + e.callback.number) j → ss' ≡ remove ss j → es' ≡ remove es at → IsStamped es' ss'
+    → IsInsertionPoint rank no_link ss (e.callback.stamp * 2 ^ 64 + e.callback.number) j → ss' ≡ remove ss j → es' ≡ remove es at → IsStamped es' ss'
 stamped_drop es es' ss ss' at j e is up bound there ps s gone =
     let here = at_is no_entry es at e bound there in
     let f = stamp_found es ss at j e is bound there ps in

@@ -2,9 +2,9 @@
 use Rattle.std.specs.Prelude.{◌≡◌, ℕ, ◌+◌, ◌<◌, ◌≤◌, List, length, Option, Some, None}
 use Rattle.nl_callbacks.specs.declared.entry.Entry.{Entry}
 use Rattle.nl_callbacks.specs.declared.links.Link.{Link}
-use Rattle.nl_callbacks.specs.Links.{HasLink, IsRising, link}
+use Rattle.nl_callbacks.specs.Links.{HasLink, AreRisingLinks, link}
 use Rattle.nl_callbacks.specs.Lists.{Rises}
-use Rattle.nl_callbacks.specs.Pending.{entry_at, no_entry, number_of, IsTable}
+use Rattle.nl_callbacks.specs.Pending.{entry_at, no_entry, number_of, ArePendingEntries}
 
 -- the link of an entry in the list by old name
 abbrev pub name_key : Entry → Option Link
@@ -35,11 +35,11 @@ HasKey key es x = (i : ℕ) × (i < length es) × (key (entry_at es i) ≡ Some 
 
 -- the list has the link of each entry that has one, and no others
 pub record IsIndex (key : Entry → Option Link) (es : List Entry) (links : List Link) : Type 0 where
-  pub rising : IsRising links
+  pub rising : AreRisingLinks links
   pub there : (x : Link) → HasKey key es x → HasLink links x
   pub back : (x : Link) → HasLink links x → HasKey key es x
 
-pub record IsKept (es : List Entry) (names waiting done : List Link) : Type 0 where
+pub record AreIndexed (es : List Entry) (names waiting done : List Link) : Type 0 where
   pub rising : Rises number_of no_entry es
   pub by_name : IsIndex name_key es names
   pub not_handled : IsIndex waiting_key es waiting
@@ -54,9 +54,9 @@ pub record IsStamped (es : List Entry) (stamps : List Link) : Type 0 where
 
 -- the parts of the table together, with the capacities of the five lists
 pub record IsInside (room posted : ℕ) (es : List Entry) (names waiting done stamps : List Link) (c0 c1 c2 c3 c4 : ℕ) : Type 0 where
-  pub kept : IsKept es names waiting done
+  pub kept : AreIndexed es names waiting done
   pub stamped : IsStamped es stamps
-  pub table : IsTable es posted
+  pub table : ArePendingEntries es posted
   pub few : length es ≤ room
   pub entries_room : room ≤ c0
   pub names_room : room ≤ c1

@@ -20,6 +20,6 @@ HasLink xs x = (i : ℕ) × (i < length xs) × (link_at xs i ≡ x)
 abbrev pub rank : Link → ℕ
 rank x = x.key * 2 ^ 64 + x.number
 
-pub record IsRising (xs : List Link) : Type 0 where
+pub record AreRisingLinks (xs : List Link) : Type 0 where
   pub order : Rises rank no_link xs
   pub fits : (i : ℕ) → i < length xs → (link_at xs i).number < 2 ^ 64

@@ -56,7 +56,7 @@ abbrev pub WasEmpty : List ℕ → List ℕ → Type 0
 WasEmpty told all_taken = IsFront told all_taken
 
 -- what a pass that may send, or take, has of all that was sent and taken
-pub record Fits (writer reader : ℕ) (all_sent all_taken : List ℕ) (port : ℕ) (v : NoticeLog) : Type 0 where
+pub record FitsNoticeLog (writer reader : ℕ) (all_sent all_taken : List ℕ) (port : ℕ) (v : NoticeLog) : Type 0 where
   pub sends : v.sends ≡ true → (port ≡ writer) × (v.sent ≡ all_sent)
   pub takes : v.takes ≡ true → (port ≡ reader) × (v.taken ≡ all_taken)
   pub knows : IsFront v.known all_sent
@@ -69,4 +69,4 @@ pub record Relayed (items : List ℕ) (views : List NoticeLog) : Type 0 where
   pub all_sent : List ℕ
   pub all_taken : List ℕ
   pub in_order : all_sent ≡ all_taken ++ items
-  pub each : (port : ℕ) (v : NoticeLog) → get_elem? views port ≡ some v → Fits writer reader all_sent all_taken port v
+  pub each : (port : ℕ) (v : NoticeLog) → get_elem? views port ≡ some v → FitsNoticeLog writer reader all_sent all_taken port v

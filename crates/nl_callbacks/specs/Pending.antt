@@ -40,12 +40,12 @@ abbrev pub place_of : List Entry → ℕ → ℕ
 place_of es number = count_by (λ e. nat_lt (number_of e) number) es
 
 -- the transaction of a callback that was handled; one that was handled before keeps the earlier one
-abbrev pub first_of : Option ℕ → ℕ → Option ℕ
-first_of None transaction = Some transaction
-first_of (Some earlier) transaction = Some earlier
+abbrev pub first_transaction : Option ℕ → ℕ → Option ℕ
+first_transaction None transaction = Some transaction
+first_transaction (Some earlier) transaction = Some earlier
 
-abbrev pub marked : Entry → ℕ → Entry
-marked e transaction = record { callback = e.callback; transaction = first_of e.transaction transaction }
+abbrev pub with_transaction : Entry → ℕ → Entry
+with_transaction e transaction = record { callback = e.callback; transaction = first_transaction e.transaction transaction }
 
 -- handled by a transaction up to this one
 abbrev pub is_over : ℕ → Option ℕ → Bool
@@ -79,7 +79,7 @@ pub record Cancels (old new : PendingTable) (name : ℕ) : Type 0 where
 
 -- The callback of this old name was taken away. It was handled by a transaction up to `upto`, and none by an earlier
 -- one, or by the same with a lesser number.
-pub record Acknowledges (old new : PendingTable) (upto name : ℕ) : Type 0 where
+pub record AcknowledgesName (old new : PendingTable) (upto name : ℕ) : Type 0 where
   pub at : ℕ
   pub transaction : ℕ
   pub within : at < length old.callbacks
@@ -98,7 +98,7 @@ pub record IsLeastFree (es : List Entry) (number : ℕ) : Type 0 where
   pub least : (other : ℕ) → 0 < other → other < number → IsPending es other
 
 -- numbers rise, and are those that were given
-pub record IsTable (es : List Entry) (posted : ℕ) : Type 0 where
+pub record ArePendingEntries (es : List Entry) (posted : ℕ) : Type 0 where
   pub rising : (i j : ℕ) → i < j → j < length es → number_of (entry_at es i) < number_of (entry_at es j)
   pub given : (i : ℕ) → i < length es → (0 < number_of (entry_at es i)) × (number_of (entry_at es i) ≤ posted)
 

@@ -1,6 +1,6 @@
 // The entries of the list of pending callbacks.
 ghost use Rattle.std.specs.Prelude.{◌≡◌, ◌≤◌, ◌<◌, length, insert, vec_capacity};
-ghost use Rattle.nl_callbacks.specs.Lists.{IsPlace, Rises};
+ghost use Rattle.nl_callbacks.specs.Lists.{IsInsertionPoint, Rises};
 ghost use Rattle.nl_callbacks.specs.Pending.{no_entry, number_of};
 
 use nl_iface::Callback;
@@ -15,7 +15,7 @@ pub struct Entry {
 /// The place of a number in a list by rising number, by halving.
 pub fn entry_place(entries: &Vec<Entry>, number: u64) -> usize
     requires { Rises number_of no_entry entries.now.items }
-    ensures { IsPlace number_of no_entry entries.now.items number result }
+    ensures { IsInsertionPoint number_of no_entry entries.now.items number result }
 {
     let mut low = 0;
     let mut high = entries.len();

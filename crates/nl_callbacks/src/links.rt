@@ -1,7 +1,7 @@
 // Lists of links in rising order.
 ghost use Rattle.std.specs.Prelude.{◌≡◌, ℕ, ◌+◌, ◌*◌, ◌^◌, ◌<◌, ◌≤◌, length, insert, nat_lt, vec_capacity};
-ghost use Rattle.nl_callbacks.specs.Links.{IsRising, no_link, rank};
-ghost use Rattle.nl_callbacks.specs.Lists.{IsPlace};
+ghost use Rattle.nl_callbacks.specs.Links.{AreRisingLinks, no_link, rank};
+ghost use Rattle.nl_callbacks.specs.Lists.{IsInsertionPoint};
 
 /// A link from a key to the number of a callback.
 #[derive(Clone, Copy, Debug)]
@@ -22,8 +22,8 @@ fn is_before(link: Link, key: u64, number: u64) -> bool
 
 /// The place of the link in a rising list, by halving.
 pub fn place(links: &Vec<Link>, key: u64, number: u64) -> usize
-    requires { IsRising links.now.items }
-    ensures { IsPlace rank no_link links.now.items (key * 2 ^ 64 + number) result }
+    requires { AreRisingLinks links.now.items }
+    ensures { IsInsertionPoint rank no_link links.now.items (key * 2 ^ 64 + number) result }
 {
     let mut low = 0;
     let mut high = links.len();

@@ -1,6 +1,6 @@
 // The lists by which pending callbacks are found.
 ghost use Rattle.std.specs.Prelude.{◌≡◌, ℕ, ◌<◌, ◌≤◌, Some, None, length, insert, remove, slice_set, vec_capacity};
-ghost use Rattle.nl_callbacks.specs.Kept.{IsKept};
+ghost use Rattle.nl_callbacks.specs.Kept.{AreIndexed};
 ghost use Rattle.nl_callbacks.specs.Pending.{IsPending, entry_at, place_of};
 
 use crate::entry::{Entry, entry_place, put_entry};
@@ -15,12 +15,12 @@ pub fn add_entry(
     done: &Vec<Link>,
     callback: Callback,
 )
-    requires kept { IsKept entries.old.items names.old.items waiting.old.items done.now.items }
+    requires kept { AreIndexed entries.old.items names.old.items waiting.old.items done.now.items }
     requires fresh { IsPending entries.old.items callback.number → ⊥ }
     requires entries_room { length entries.old.items < vec_capacity entries.old }
     requires names_room { length entries.old.items < vec_capacity names.old }
     requires waiting_room { length entries.old.items < vec_capacity waiting.old }
-    ensures kept { IsKept entries.new.items names.new.items waiting.new.items done.now.items }
+    ensures kept { AreIndexed entries.new.items names.new.items waiting.new.items done.now.items }
     ensures items { entries.new.items
         ≡ insert entries.old.items (place_of entries.old.items callback.number) (record { callback = callback; transaction = None }) }
     ensures entries_capacity { vec_capacity entries.old ≤ vec_capacity entries.new }
@@ -60,11 +60,11 @@ pub fn mark_entry(
     at: usize,
     transaction: u64,
 )
-    requires kept { IsKept entries.old.items names.now.items waiting.old.items done.old.items }
+    requires kept { AreIndexed entries.old.items names.now.items waiting.old.items done.old.items }
     requires within { at < length entries.old.items }
     requires waits { (entry_at entries.old.items at).transaction ≡ None }
     requires done_room { length entries.old.items ≤ vec_capacity done.old }
-    ensures kept { IsKept entries.new.items names.now.items waiting.new.items done.new.items }
+    ensures kept { AreIndexed entries.new.items names.now.items waiting.new.items done.new.items }
     ensures items { entries.new.items
         ≡ slice_set entries.old.items at (record { callback = (entry_at entries.old.items at).callback; transaction = Some transaction }) }
     ensures entries_capacity { vec_capacity entries.old ≤ vec_capacity entries.new }
@@ -98,10 +98,10 @@ fn drop_waiting(
     done: &Vec<Link>,
     at: usize,
 )
-    requires kept { IsKept entries.old.items names.old.items waiting.old.items done.now.items }
+    requires kept { AreIndexed entries.old.items names.old.items waiting.old.items done.now.items }
     requires within { at < length entries.old.items }
     requires waits { (entry_at entries.old.items at).transaction ≡ None }
-    ensures kept { IsKept entries.new.items names.new.items waiting.new.items done.now.items }
+    ensures kept { AreIndexed entries.new.items names.new.items waiting.new.items done.now.items }
     ensures items { entries.new.items ≡ remove entries.old.items at }
     ensures entries_capacity { vec_capacity entries.old ≤ vec_capacity entries.new }
     ensures names_capacity { vec_capacity names.old ≤ vec_capacity names.new }
@@ -124,10 +124,10 @@ fn drop_done(
     at: usize,
     transaction: u64,
 )
-    requires kept { IsKept entries.old.items names.old.items waiting.now.items done.old.items }
+    requires kept { AreIndexed entries.old.items names.old.items waiting.now.items done.old.items }
     requires within { at < length entries.old.items }
     requires handled { (entry_at entries.old.items at).transaction ≡ Some transaction }
-    ensures kept { IsKept entries.new.items names.new.items waiting.now.items done.new.items }
+    ensures kept { AreIndexed entries.new.items names.new.items waiting.now.items done.new.items }
     ensures items { entries.new.items ≡ remove entries.old.items at }
     ensures entries_capacity { vec_capacity entries.old ≤ vec_capacity entries.new }
     ensures names_capacity { vec_capacity names.old ≤ vec_capacity names.new }
@@ -149,9 +149,9 @@ pub fn drop_entry(
     done: &mut Vec<Link>,
     at: usize,
 )
-    requires kept { IsKept entries.old.items names.old.items waiting.old.items done.old.items }
+    requires kept { AreIndexed entries.old.items names.old.items waiting.old.items done.old.items }
     requires within { at < length entries.old.items }
-    ensures kept { IsKept entries.new.items names.new.items waiting.new.items done.new.items }
+    ensures kept { AreIndexed entries.new.items names.new.items waiting.new.items done.new.items }
     ensures items { entries.new.items ≡ remove entries.old.items at }
     ensures entries_capacity { vec_capacity entries.old ≤ vec_capacity entries.new }
     ensures names_capacity { vec_capacity names.old ≤ vec_capacity names.new }

@@ -2,7 +2,7 @@
 ghost use Rattle.std.specs.Prelude.{◌≡◌, ℕ, ◌+◌, ◌-◌, ◌^◌, ◌<◌, ◌≤◌, ◌↔◌, ◌∷◌, ◌++◌, [], length, insert, min, slice_set, IsTrue, IfOk, IfSome, IfNone, Some};
 ghost use Rattle.std.specs.Bool.{OnTrue, OnFalse};
 ghost use Rattle.nl_callbacks.specs.Lists.{Rises};
-ghost use Rattle.nl_callbacks.specs.Pending.{Acknowledges, Cancels, HasCallback, IsLeastFree, IsName, IsPending, IsTable, IsWaiting, beside_name, beside_stamp, callback_of, entry_at, marked, new_entry, no_entry, number_of, place_of, unacknowledged};
+ghost use Rattle.nl_callbacks.specs.Pending.{AcknowledgesName, Cancels, HasCallback, IsLeastFree, IsName, IsPending, ArePendingEntries, IsWaiting, beside_name, beside_stamp, callback_of, entry_at, with_transaction, new_entry, no_entry, number_of, place_of, unacknowledged};
 
 use crate::entry::{Entry, entry_place};
 use crate::links::{Link, place};
@@ -60,7 +60,7 @@ impl Pending {
     /// No callback, with room for so many.
     pub fn new(alloc: Global, room: u32) -> Result<Pending, Memory>
         ensures empty { IfOk result (λ p. p ≡ record { callbacks = []; posted = 0; room = room }) }
-        ensures table { IfOk result (λ p. IsTable p.callbacks p.posted) }
+        ensures table { IfOk result (λ p. ArePendingEntries p.callbacks p.posted) }
     {
         let entries = Vec::with_capacity(alloc, room as usize)?;
         let names = Vec::with_capacity(alloc, room as usize)?;
@@ -81,7 +81,7 @@ impl Pending {
     /// For how many more callbacks there is room.
     pub fn room(&self) -> u32
         ensures value { result ≡ self.now.room }
-        ensures table { IsTable self.now.callbacks self.now.posted }
+        ensures table { ArePendingEntries self.now.callbacks self.now.posted }
     {
         self.room - self.entries.len() as u32
     }
@@ -113,7 +113,7 @@ impl Pending {
         ensures next { self.old.posted + 1 < 2 ^ 64 → result ≡ self.old.posted + 1 }
         ensures reused { 2 ^ 64 ≤ self.old.posted + 1 → IsLeastFree self.old.callbacks result }
         ensures fresh { IsPending self.old.callbacks result → ⊥ }
-        ensures table { IsTable self.new.callbacks self.new.posted }
+        ensures table { ArePendingEntries self.new.callbacks self.new.posted }
         ensures appends { self.old.posted + 1 < 2 ^ 64
             → self.new.callbacks ≡ self.old.callbacks ++ new_entry (callback_of result old new tag stamp) ∷ [] }
         ensures posted { self.new ≡ record {
@@ -202,12 +202,12 @@ impl Pending {
         ensures handled { OnTrue result
             (let at = place_of self.old.callbacks number in self.new
             ≡ record {
-              callbacks = slice_set self.old.callbacks at (marked (entry_at self.old.callbacks at) transaction);
+              callbacks = slice_set self.old.callbacks at (with_transaction (entry_at self.old.callbacks at) transaction);
               posted = self.old.posted;
               room = self.old.room;
             }) }
         ensures kept { OnFalse result (self.new ≡ self.old) }
-        ensures table { IsTable self.new.callbacks self.new.posted }
+        ensures table { ArePendingEntries self.new.callbacks self.new.posted }
     {
         let at = entry_place(&self.entries, number);
         if at == self.entries.len() {
@@ -238,14 +238,14 @@ impl Pending {
     /// one of the least number, and gives its old name. None exactly where none was handled by a transaction up to
     /// `upto`.
     pub fn acknowledge_next(&mut self, upto: u64) -> Option<u32>
-        ensures some { IfSome result (Acknowledges self.old self.new upto) }
+        ensures some { IfSome result (AcknowledgesName self.old self.new upto) }
         ensures none { IfNone result
             ((i transaction : ℕ) → i < length self.old.callbacks → (entry_at self.old.callbacks i).transaction ≡ Some transaction
             → upto < transaction) }
         ensures kept { IfNone result (self.new ≡ self.old) }
         ensures over { unacknowledged upto self.new.callbacks ≡ unacknowledged upto self.old.callbacks }
         ensures all { IfNone result (unacknowledged upto self.new.callbacks ≡ self.new.callbacks) }
-        ensures table { IsTable self.new.callbacks self.new.posted }
+        ensures table { ArePendingEntries self.new.callbacks self.new.posted }
     {
         if self.done.len() == 0 {
             return None;
@@ -275,7 +275,7 @@ impl Pending {
         ensures kept { OnFalse result (self.new ≡ self.old) }
         ensures beside { beside_name self.new.callbacks name ≡ beside_name self.old.callbacks name }
         ensures all { OnFalse result (beside_name self.new.callbacks name ≡ self.new.callbacks) }
-        ensures table { IsTable self.new.callbacks self.new.posted }
+        ensures table { ArePendingEntries self.new.callbacks self.new.posted }
     {
         let here = place(&self.names, name as u64, 0);
         if here == self.names.len() {

@@ -1,6 +1,6 @@
 // The lists of callbacks with the one by stamp.
 ghost use Rattle.std.specs.Prelude.{◌≡◌, ℕ, ◌<◌, ◌≤◌, Some, None, length, insert, remove, slice_set, vec_capacity};
-ghost use Rattle.nl_callbacks.specs.Kept.{IsKept, IsStamped};
+ghost use Rattle.nl_callbacks.specs.Kept.{AreIndexed, IsStamped};
 ghost use Rattle.nl_callbacks.specs.Pending.{IsPending, entry_at, place_of};
 
 use crate::entry::Entry;
@@ -17,14 +17,14 @@ pub fn add_stamped(
     stamps: &mut Vec<Link>,
     callback: Callback,
 )
-    requires kept { IsKept entries.old.items names.old.items waiting.old.items done.now.items }
+    requires kept { AreIndexed entries.old.items names.old.items waiting.old.items done.now.items }
     requires stamped { IsStamped entries.old.items stamps.old.items }
     requires fresh { IsPending entries.old.items callback.number → ⊥ }
     requires entries_room { length entries.old.items < vec_capacity entries.old }
     requires names_room { length entries.old.items < vec_capacity names.old }
     requires waiting_room { length entries.old.items < vec_capacity waiting.old }
     requires stamps_room { length entries.old.items < vec_capacity stamps.old }
-    ensures kept { IsKept entries.new.items names.new.items waiting.new.items done.now.items }
+    ensures kept { AreIndexed entries.new.items names.new.items waiting.new.items done.now.items }
     ensures stamped { IsStamped entries.new.items stamps.new.items }
     ensures items { entries.new.items
         ≡ insert entries.old.items (place_of entries.old.items callback.number) (record { callback = callback; transaction = None }) }
@@ -50,12 +50,12 @@ pub fn mark_stamped(
     at: usize,
     transaction: u64,
 )
-    requires kept { IsKept entries.old.items names.now.items waiting.old.items done.old.items }
+    requires kept { AreIndexed entries.old.items names.now.items waiting.old.items done.old.items }
     requires stamped { IsStamped entries.old.items stamps.now.items }
     requires within { at < length entries.old.items }
     requires waits { (entry_at entries.old.items at).transaction ≡ None }
     requires done_room { length entries.old.items ≤ vec_capacity done.old }
-    ensures kept { IsKept entries.new.items names.now.items waiting.new.items done.new.items }
+    ensures kept { AreIndexed entries.new.items names.now.items waiting.new.items done.new.items }
     ensures stamped { IsStamped entries.new.items stamps.now.items }
     ensures items { entries.new.items
         ≡ slice_set entries.old.items at (record { callback = (entry_at entries.old.items at).callback; transaction = Some transaction }) }
@@ -76,10 +76,10 @@ pub fn drop_stamped(
     stamps: &mut Vec<Link>,
     at: usize,
 )
-    requires kept { IsKept entries.old.items names.old.items waiting.old.items done.old.items }
+    requires kept { AreIndexed entries.old.items names.old.items waiting.old.items done.old.items }
     requires stamped { IsStamped entries.old.items stamps.old.items }
     requires within { at < length entries.old.items }
-    ensures kept { IsKept entries.new.items names.new.items waiting.new.items done.new.items }
+    ensures kept { AreIndexed entries.new.items names.new.items waiting.new.items done.new.items }
     ensures stamped { IsStamped entries.new.items stamps.new.items }
     ensures items { entries.new.items ≡ remove entries.old.items at }
     ensures entries_capacity { vec_capacity entries.old ≤ vec_capacity entries.new }

@@ -14,14 +14,14 @@ use Rattle.nl_iface.specs.declared.counts.Counts.{Ghosts}
 use Rattle.nl_iface.specs.declared.moving_pages.MovingPages.{Ghosts as Moving}
 use Rattle.nl_meta.proofs.PageProofs.{none as changes_none}
 use Rattle.nl_meta_running.proofs.Holds.{reads-none}
-use Rattle.nl_spec_commits.specs.Trees.{RunsAs}
+use Rattle.nl_spec_commits.specs.Trees.{RepresentsTree}
 use Rattle.nl_core.specs.Core.{IsCore, running_of}
-use Rattle.nl_core.specs.Goes.{Goes}
+use Rattle.nl_core.specs.Goes.{PreservesVolume}
 use Rattle.nl_core.specs.declared.state.Core.{Core}
 use Rattle.nl_core.proofs.Onward.{goes_then}
 use Rattle.nl_calls_steps.specs.Steps.{Steps}
-use Rattle.nl_calls_steps.specs.Calls.{OthersStay}
-use Rattle.nl_calls.specs.Answering.{AnswersCall, AnswersOn, Cleans, HasEffect, HasEffectOf, Syncs, counts_of, is_synced}
+use Rattle.nl_calls_steps.specs.Calls.{OtherLinesStay}
+use Rattle.nl_calls.specs.Answering.{AnswersCall, AnswersOn, RunsReclaimPass, MakesEffect, HasEffectOf, Syncs, counts_of, is_synced}
 use Rattle.nl_calls.proofs.Ended.{ends_then}
 
 -- ---- what a call does
@@ -38,22 +38,22 @@ steps_none g v = record {
 
 module _ {D : Type 0} (g : Ghosts D) (call : Call) (u v : Core D) where
   -- a call that leaves the tree
-  pub leaves_effect : (fault : Option FaultReply) → ((shape : Shape) (tree : Tree) → (step_marked shape tree (call, fault)).tree ≡ tree) → (n : ℕ) → IsCore g v → Goes g n u v → HasEffect g call fault u v
+  pub leaves_effect : (fault : Option FaultReply) → ((shape : Shape) (tree : Tree) → (step_marked shape tree (call, fault)).tree ≡ tree) → (n : ℕ) → IsCore g v → PreservesVolume g n u v → MakesEffect g call fault u v
   leaves_effect fault same n core goes = record {
     between = v;
     core = core;
     most = n;
     goes = goes;
     steps = steps_none g v;
-    makes = λ tells page_of_stamp tree runs. subst (RunsAs (g.shape v.device) (running_of g v) page_of_stamp) (sym (same (g.shape v.device) tree)) runs.runs;
+    makes = λ tells page_of_stamp tree runs. subst (RepresentsTree (g.shape v.device) (running_of g v) page_of_stamp) (sym (same (g.shape v.device) tree)) runs.runs;
   }
 
   -- one that met a fault
-  pub fault_effect : (fault : FaultReply) (n : ℕ) → IsCore g v → Goes g n u v → HasEffect g call (Some fault) u v
+  pub fault_effect : (fault : FaultReply) (n : ℕ) → IsCore g v → PreservesVolume g n u v → MakesEffect g call (Some fault) u v
   fault_effect fault = leaves_effect (Some fault) (λ shape tree. refl)
 
   -- the effect of a call whose reply is no sync's
-  pub plain_effect : (reply : Reply) → is_synced reply ≡ false → HasEffect g call (fault_in reply) u v → HasEffectOf g call u v reply
+  pub plain_effect : (reply : Reply) → is_synced reply ≡ false → MakesEffect g call (fault_in reply) u v → HasEffectOf g call u v reply
   plain_effect Done is x = x
   plain_effect (Count n) is x = x
   plain_effect Content is x = x
@@ -79,8 +79,8 @@ module _ {D : Type 0} (g : Ghosts D) (u v : Core D) where
 
 -- ---- after the core went on
 
-module _ {D : Type 0} (g : Ghosts D) (call : Call) (n : ℕ) (u v w : Core D) (goes : Goes g n u v) where
-  effect_after : (fault : Option FaultReply) → HasEffect g call fault v w → HasEffect g call fault u w
+module _ {D : Type 0} (g : Ghosts D) (call : Call) (n : ℕ) (u v w : Core D) (goes : PreservesVolume g n u v) where
+  effect_after : (fault : Option FaultReply) → MakesEffect g call fault v w → MakesEffect g call fault u w
   effect_after fault x = record {
     between = x.between;
     core = x.core;
@@ -134,10 +134,10 @@ module _ {D : Type 0} (g : Ghosts D) (call : Call) (n : ℕ) (u v w : Core D) (g
       let on = goes.runs tells page_of_stamp tree runs in
       subst (λ (h : Shape). Answers (step_marked h tree (call, fault_in reply)) reply out) goes.same_shape (is tells on.pages tree on.runs)
 
-  pub cleans_after : (m : Moving D) → Cleans g m v w → Cleans g m u w
+  pub cleans_after : (m : Moving D) → RunsReclaimPass g m v w → RunsReclaimPass g m u w
   cleans_after m c = record { between = c.between; most = n + c.most; goes = goes_then g u v c.between n c.most goes c.goes; round = c.round }
 
-  pub answer_after : (worker : ℕ) (reply : Reply) (out : List ℕ) (files : ℕ) → OthersStay worker u.flight v.flight → AnswersCall g worker call v w reply out files → AnswersCall g worker call u w reply out files
+  pub answer_after : (worker : ℕ) (reply : Reply) (out : List ℕ) (files : ℕ) → OtherLinesStay worker u.flight v.flight → AnswersCall g worker call v w reply out files → AnswersCall g worker call u w reply out files
   answer_after worker reply out files stay x = record {
     effect = effect_of_after reply x.effect;
     answers = answers_after reply out x.answers;
@@ -148,6 +148,6 @@ module _ {D : Type 0} (g : Ghosts D) (call : Call) (n : ℕ) (u v w : Core D) (g
   }
 
 -- what failed before the core went on
-pub rose_on : {D : Type 0} (g : Ghosts D) (u v w : Core D) {n : ℕ} → Goes g n v w → FaultRose (counts_of g u.device) (counts_of g v.device) → FaultRose (counts_of g u.device) (counts_of g w.device)
+pub rose_on : {D : Type 0} (g : Ghosts D) (u v w : Core D) {n : ℕ} → PreservesVolume g n v w → FaultRose (counts_of g u.device) (counts_of g v.device) → FaultRose (counts_of g u.device) (counts_of g w.device)
 rose_on g u v w goes (inl rose) = inl (let up = goes.reads in omega (arith, rose, up))
 rose_on g u v w goes (inr rose) = inr (let up = goes.writes in omega (arith, rose, up))

@@ -8,7 +8,7 @@ use Rattle.nl_iface.specs.Names.{Names}
 use Rattle.nl_iface.specs.declared.counts.Counts.{Ghosts}
 use Rattle.nl_meta_running.proofs.Holds.{bounds-of}
 use Rattle.nl_core.specs.Core.{IsCore, running_of}
-use Rattle.nl_core.specs.Goes.{Goes}
+use Rattle.nl_core.specs.Goes.{PreservesVolume}
 use Rattle.nl_core.specs.Laws.{PagesStayAsMany}
 use Rattle.nl_core.specs.declared.state.Core.{Core}
 use Rattle.nl_meta.specs.Nodes.{graph_of}
@@ -40,7 +40,7 @@ module _ {D : Type 0} (g : Ghosts D) (u v : Core D) (before : IsCore g u) (after
       omega (arith, few, same, within, all, held)
 
 -- where a core goes on, files have as many
-module _ {D : Type 0} (g : Ghosts D) (n : ℕ) (u v : Core D) (goes : Goes g n u v) (law : PagesStayAsMany) where
+module _ {D : Type 0} (g : Ghosts D) (n : ℕ) (u v : Core D) (goes : PreservesVolume g n u v) (law : PagesStayAsMany) where
   pub goes_counted : pages_of_files g v ≡ pages_of_files g u
   goes_counted =
       ap (λ (h : Shape). length (tagged_in h (running_of g v))) goes.same_shape

@@ -4,7 +4,7 @@ use Rattle.std.proofs.Math.ListN.{get_or, get_or-map}
 use Rattle.std.proofs.lemmas.List.{get_or-set_other, get_or-set_same}
 use Rattle.nl_core_callbacks.specs.Handled.{nameless_line}
 use Rattle.nl_flight.specs.Flight.{InFlight, begun, of_worker, with_line}
-use Rattle.nl_calls_steps.specs.Calls.{OthersStay}
+use Rattle.nl_calls_steps.specs.Calls.{OtherLinesStay}
 use Rattle.nl_calls.specs.Answering.{EndsLine}
 
 nil_of : {X Y : Type 0} (f : X → Y) (xs : List X) → map f xs ≡ [] → xs ≡ []
@@ -38,5 +38,5 @@ module _ (worker : ℕ) (u v : List InFlight) where
     others = λ w far. ap (λ (f : List InFlight). nameless_line (of_worker f w)) is ∙ ap nameless_line (get_or-set_other u worker w (begun 0) (begun 0) far);
   }
 
-  pub ends_then : (w : List InFlight) → OthersStay worker u v → EndsLine worker v w → EndsLine worker u w
+  pub ends_then : (w : List InFlight) → OtherLinesStay worker u v → EndsLine worker v w → EndsLine worker u w
   ends_then w one two = record { idle = two.idle; others = λ x far. two.others x far ∙ one x far }

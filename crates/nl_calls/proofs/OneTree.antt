@@ -13,7 +13,7 @@ use Rattle.nl_spec_image.specs.Stands.{bytes_for}
 use Rattle.nl_spec_image.proofs.Represented.{represents_same}
 use Rattle.nl_spec_image.proofs.SoundProofs.{represented_is_one}
 use Rattle.nl_core.specs.Core.{IsCore, names_of, running_of}
-use Rattle.nl_core.specs.Trees.{CoreRuns}
+use Rattle.nl_core.specs.Trees.{CoreRepresentsTree}
 use Rattle.nl_core.specs.declared.state.Core.{Core}
 use Rattle.nl_calls_files.proofs.FileRunning.{held_lead_once}
 
@@ -22,7 +22,7 @@ tagged [] h has = absurd has
 tagged (x ∷ hs) h (inl e) = inl (ap with_tag e)
 tagged (x ∷ hs) h (inr has) = inr (tagged hs h has)
 
-module _ {D : Type 0} (g : Ghosts D) (v : Core D) (core : IsCore g v) (first second : ℕ → Option PageOfStamp) (tree other : Tree) (a : CoreRuns g v first tree) (b : CoreRuns g v second other) where
+module _ {D : Type 0} (g : Ghosts D) (v : Core D) (core : IsCore g v) (first second : ℕ → Option PageOfStamp) (tree other : Tree) (a : CoreRepresentsTree g v first tree) (b : CoreRepresentsTree g v second other) where
   -- each page of a file is live, and shown
   shown : (h : Held) → members.Has (held_in (g.shape v.device) (running_of g v)) h → bytes_for first h.pointer.stamp ≡ bytes_for second h.pointer.stamp
   shown h has =

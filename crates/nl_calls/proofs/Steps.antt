@@ -2,7 +2,7 @@
 use Rattle.std.proofs.Common.{◌≡◌, ℕ, List, [], ◌∷◌, Option, Some, None, refl, sym, ap, subst}
 use Rattle.std.specs.List.{list_any}
 use Rattle.nl_field.specs.declared.shape.Shape.{Shape}
-use Rattle.nl_tree.specs.Replay.{Answers, Fits}
+use Rattle.nl_tree.specs.Replay.{Answers, ReplyFits}
 use Rattle.nl_tree.specs.Step.{Outcome, effect_of, first_of, is_too_long, outcome_unless, own_refusal, paths_of, space_refusal, step, when}
 use Rattle.nl_tree.specs.Tree.{Tree}
 use Rattle.nl_tree.specs.declared.call.Call.{Call}
@@ -52,7 +52,7 @@ names_bytes shape tree call is = unless_bytes tree (effect_of tree call) _ (no_b
 -- ---- a reply that is the step's
 
 pub done_answers : (outcome : Outcome) → outcome.reply ≡ Done → outcome.bytes ≡ [] → Answers outcome Done []
-done_answers outcome reply bytes = (subst (λ r. Fits r Done) (sym reply) refl, sym bytes)
+done_answers outcome reply bytes = (subst (λ r. ReplyFits r Done) (sym reply) refl, sym bytes)
 
 pub refused_answers : (outcome : Outcome) (tree : Tree) (refusal : Refusal) → outcome ≡ record { reply = No refusal; bytes = []; tree = tree } → Answers outcome (No refusal) []
 refused_answers outcome tree refusal is = subst (λ (x : Outcome). Answers x (No refusal) []) (sym is) (refl, refl)
@@ -84,4 +84,4 @@ unfolding step effect_of
 truncate_bytes shape tree path size = unless_bytes tree (effect_of tree (Truncate path size)) _ refl
 
 pub count_answers : (outcome : Outcome) (n m : ℕ) → outcome.reply ≡ Count m → n ≡ m → outcome.bytes ≡ [] → Answers outcome (Count n) []
-count_answers outcome n m reply same bytes = (subst (λ r. Fits r (Count n)) (sym reply) (ap Count same), sym bytes)
+count_answers outcome n m reply same bytes = (subst (λ r. ReplyFits r (Count n)) (sym reply) (ap Count same), sym bytes)

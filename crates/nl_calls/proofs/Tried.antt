@@ -16,22 +16,22 @@ use Rattle.nl_tree.specs.declared.reply.Reply.TheVariants.{Done, No, Fault, Sync
 use Rattle.nl_iface.specs.declared.counts.Counts.{Ghosts}
 use Rattle.nl_meta.specs.Consistent.{PageOfStamp}
 use Rattle.nl_namespace.specs.Calls.{IsOfNames}
-use Rattle.nl_spec_commits.specs.Trees.{RunsAs}
+use Rattle.nl_spec_commits.specs.Trees.{RepresentsTree}
 use Rattle.nl_core.specs.Calls.{CommitsAll}
 use Rattle.nl_core.specs.Core.{IsCore, running_of}
-use Rattle.nl_core.specs.Goes.{Goes}
+use Rattle.nl_core.specs.Goes.{PreservesVolume}
 use Rattle.nl_core.specs.Laws.{PagesStayAsMany}
-use Rattle.nl_core.specs.Trees.{CoreRuns}
+use Rattle.nl_core.specs.Trees.{CoreRepresentsTree}
 use Rattle.nl_core.specs.declared.state.Core.{Core}
 use Rattle.nl_core.proofs.Onward.{goes_none}
 use Rattle.nl_calls_steps.specs.Steps.{Steps}
 use Rattle.nl_calls_files.proofs.Directories.{room}
-use Rattle.nl_calls_steps.specs.Calls.{MakesTree, RunsAsSome, TakesWithin}
-use Rattle.nl_calls_read.specs.Looking.{IsPlain, OnlyLooks}
+use Rattle.nl_calls_steps.specs.Calls.{MakesTree, RepresentsSomeTree, TakesWithin}
+use Rattle.nl_calls_read.specs.Looking.{IsPlainReply, OnlyLooks}
 use Rattle.nl_calls_names.specs.Naming.{AnswersAs}
 use Rattle.nl_calls_names.specs.declared.answer.Naming.TheVariants as naming
 use Rattle.nl_calls_bytes.specs.Ranges.{IsWriting}
-use Rattle.nl_calls.specs.Answering.{AnswersCall, AnswersOn, EndsLine, HasEffect, counts_of, is_sync_call, is_synced, pages_of_files}
+use Rattle.nl_calls.specs.Answering.{AnswersCall, AnswersOn, EndsLine, MakesEffect, counts_of, is_sync_call, is_synced, pages_of_files}
 use Rattle.nl_calls.proofs.Answered.{and_false, failed_cause, fault_effect, leaves_effect, plain_effect, steps_none}
 use Rattle.nl_calls.proofs.Counted.{goes_counted}
 use Rattle.nl_calls.proofs.OneTree.{one_tree}
@@ -40,7 +40,7 @@ use Rattle.nl_calls.proofs.Steps.{clean_step, done_answers, names_bytes, refused
 
 -- ---- a fault
 
-module _ {D : Type 0} (g : Ghosts D) (worker : ℕ) (call : Call) (n : ℕ) (u v : Core D) (files : ℕ) (core : IsCore g v) (goes : Goes g n u v) (law : PagesStayAsMany) (are : files ≡ pages_of_files g u) (line : EndsLine worker u.flight v.flight)
+module _ {D : Type 0} (g : Ghosts D) (worker : ℕ) (call : Call) (n : ℕ) (u v : Core D) (files : ℕ) (core : IsCore g v) (goes : PreservesVolume g n u v) (law : PagesStayAsMany) (are : files ≡ pages_of_files g u) (line : EndsLine worker u.flight v.flight)
     (out : List ℕ) (none : out ≡ []) where
   pub meets_fault : (f : FaultReply) → FaultWithin g.tells (counts_of g u.device) (counts_of g v.device) f → AnswersCall g worker call u v (Fault f) out files
   meets_fault f within = record {
@@ -72,8 +72,8 @@ only_looks (ListCall path) is = (refl, refl, λ e. cc e)
 only_looks Sync is = absurd is
 only_looks Clean is = absurd is
 
-module _ {D : Type 0} (g : Ghosts D) (worker : ℕ) (call : Call) (n : ℕ) (u v : Core D) (files : ℕ) (core : IsCore g v) (goes : Goes g n u v) (law : PagesStayAsMany) (are : files ≡ pages_of_files g u) (line : EndsLine worker u.flight v.flight) where
-  pub looked : OnlyLooks call → (reply : Reply) (out : List ℕ) → IsPlain reply → (g.tells → (page_of_stamp : ℕ → Option PageOfStamp) (tree : Tree) → CoreRuns g u page_of_stamp tree → Answers (step (g.shape u.device) tree call) reply out)
+module _ {D : Type 0} (g : Ghosts D) (worker : ℕ) (call : Call) (n : ℕ) (u v : Core D) (files : ℕ) (core : IsCore g v) (goes : PreservesVolume g n u v) (law : PagesStayAsMany) (are : files ≡ pages_of_files g u) (line : EndsLine worker u.flight v.flight) where
+  pub looked : OnlyLooks call → (reply : Reply) (out : List ℕ) → IsPlainReply reply → (g.tells → (page_of_stamp : ℕ → Option PageOfStamp) (tree : Tree) → CoreRepresentsTree g u page_of_stamp tree → Answers (step (g.shape u.device) tree call) reply out)
       → AnswersCall g worker call u v reply out files
   looked looks reply out plain answers =
       let k = only_looks call looks in
@@ -97,7 +97,7 @@ module _ {D : Type 0} (g : Ghosts D) (worker : ℕ) (call : Call) (n : ℕ) (u v
     files_are = are ∙ sym (goes_counted g n u v goes law);
   }
     where
-      is_clean : (page_of_stamp : ℕ → Option PageOfStamp) (tree : Tree) → CoreRuns g u page_of_stamp tree → step (g.shape u.device) tree Clean ≡ record { reply = Done; bytes = []; tree = tree }
+      is_clean : (page_of_stamp : ℕ → Option PageOfStamp) (tree : Tree) → CoreRepresentsTree g u page_of_stamp tree → step (g.shape u.device) tree Clean ≡ record { reply = Done; bytes = []; tree = tree }
       is_clean page_of_stamp tree runs = clean_step (g.shape u.device) tree (room (g.shape u.device) (running_of g u) page_of_stamp tree runs.runs)
 
 -- ---- a call that changes names
@@ -118,8 +118,8 @@ of_names Sync is = absurd is
 of_names Clean is = absurd is
 
 module _ {D : Type 0} (g : Ghosts D) (worker : ℕ) (call : Call) (u v : Core D) (files : ℕ) (is : IsOfNames call) (before : IsCore g u) (changes : Steps g u v) (are : files ≡ pages_of_files g v) (line : EndsLine worker u.flight v.flight) where
-  names_effect : (fault : Option FaultReply) → ((page_of_stamp : ℕ → Option PageOfStamp) (tree : Tree) → RunsAs (g.shape u.device) (running_of g u) page_of_stamp tree
-      → RunsAs (g.shape v.device) (running_of g v) page_of_stamp (step_marked (g.shape u.device) tree (call, fault)).tree) → HasEffect g call fault u v
+  names_effect : (fault : Option FaultReply) → ((page_of_stamp : ℕ → Option PageOfStamp) (tree : Tree) → RepresentsTree (g.shape u.device) (running_of g u) page_of_stamp tree
+      → RepresentsTree (g.shape v.device) (running_of g v) page_of_stamp (step_marked (g.shape u.device) tree (call, fault)).tree) → MakesEffect g call fault u v
   names_effect fault makes = record {
     between = u;
     core = before;
@@ -131,7 +131,7 @@ module _ {D : Type 0} (g : Ghosts D) (worker : ℕ) (call : Call) (u v : Core D)
 
   pub named_done : g.shape v.device ≡ g.shape u.device → AnswersAs g call u v naming.Done → AnswersCall g worker call u v Done [] files
   named_done same ends = record {
-    effect = names_effect None (λ page_of_stamp tree runs. subst (λ (h : Shape). RunsAs (g.shape v.device) (running_of g v) page_of_stamp (step h tree call).tree) same (ends page_of_stamp tree runs).1);
+    effect = names_effect None (λ page_of_stamp tree runs. subst (λ (h : Shape). RepresentsTree (g.shape v.device) (running_of g v) page_of_stamp (step h tree call).tree) same (ends page_of_stamp tree runs).1);
     answers = λ tells page_of_stamp tree runs.
         done_answers (step (g.shape u.device) tree call) (subst (λ (h : Shape). (step h tree call).reply ≡ Done) same (ends page_of_stamp tree runs.runs).0) (names_bytes (g.shape u.device) tree call is);
     cause = tt;
@@ -144,7 +144,7 @@ module _ {D : Type 0} (g : Ghosts D) (worker : ℕ) (call : Call) (u v : Core D)
   named_no refusal same ends = record {
     effect = names_effect None (λ page_of_stamp tree runs.
         let k = ends page_of_stamp tree runs in
-        subst (RunsAs (g.shape v.device) (running_of g v) page_of_stamp) (sym (ap (λ (x : Outcome). x.tree) (subst (λ (h : Shape). step h tree call ≡ record { reply = No refusal; bytes = []; tree = tree }) same k.0))) k.1);
+        subst (RepresentsTree (g.shape v.device) (running_of g v) page_of_stamp) (sym (ap (λ (x : Outcome). x.tree) (subst (λ (h : Shape). step h tree call ≡ record { reply = No refusal; bytes = []; tree = tree }) same k.0))) k.1);
     answers = λ tells page_of_stamp tree runs.
         refused_answers (step (g.shape u.device) tree call) tree refusal (subst (λ (h : Shape). step h tree call ≡ record { reply = No refusal; bytes = []; tree = tree }) same (ends page_of_stamp tree runs.runs).0);
     cause = tt;
@@ -155,7 +155,7 @@ module _ {D : Type 0} (g : Ghosts D) (worker : ℕ) (call : Call) (u v : Core D)
 
   -- the tree stays where a read failed
   pub named_fault : (f : FaultReply) → FaultWithin g.tells (counts_of g u.device) (counts_of g v.device) f
-      → ((page_of_stamp : ℕ → Option PageOfStamp) (tree : Tree) → RunsAs (g.shape u.device) (running_of g u) page_of_stamp tree → RunsAs (g.shape v.device) (running_of g v) page_of_stamp tree) → AnswersCall g worker call u v (Fault f) [] files
+      → ((page_of_stamp : ℕ → Option PageOfStamp) (tree : Tree) → RepresentsTree (g.shape u.device) (running_of g u) page_of_stamp tree → RepresentsTree (g.shape v.device) (running_of g v) page_of_stamp tree) → AnswersCall g worker call u v (Fault f) [] files
   named_fault f within stays = record {
     effect = names_effect (Some f) stays;
     answers = λ tells page_of_stamp tree runs. (refl, refl);
@@ -166,12 +166,12 @@ module _ {D : Type 0} (g : Ghosts D) (worker : ℕ) (call : Call) (u v : Core D)
   }
 
   pub named_failed : (reply : Reply) → reply ≡ Fault (Eio (fault_sum (counts_of g v.device))) → FaultRose (counts_of g u.device) (counts_of g v.device)
-      → ((page_of_stamp : ℕ → Option PageOfStamp) (tree : Tree) → RunsAs (g.shape u.device) (running_of g u) page_of_stamp tree → RunsAs (g.shape v.device) (running_of g v) page_of_stamp tree) → AnswersCall g worker call u v reply [] files
+      → ((page_of_stamp : ℕ → Option PageOfStamp) (tree : Tree) → RepresentsTree (g.shape u.device) (running_of g u) page_of_stamp tree → RepresentsTree (g.shape v.device) (running_of g v) page_of_stamp tree) → AnswersCall g worker call u v reply [] files
   named_failed reply at rose stays = subst (λ r. AnswersCall g worker call u v r [] files) (sym at) (named_fault (Eio (fault_sum (counts_of g v.device))) (failed_cause g u v rose) stays)
 
 -- ---- a sync
 
-module _ {D : Type 0} (g : Ghosts D) (worker : ℕ) (n number : ℕ) (u v : Core D) (files : ℕ) (before : IsCore g u) (goes : Goes g n u v) (commits : CommitsAll g u v number) (law : PagesStayAsMany) (are : files ≡ pages_of_files g u)
+module _ {D : Type 0} (g : Ghosts D) (worker : ℕ) (n number : ℕ) (u v : Core D) (files : ℕ) (before : IsCore g u) (goes : PreservesVolume g n u v) (commits : CommitsAll g u v number) (law : PagesStayAsMany) (are : files ≡ pages_of_files g u)
     (line : EndsLine worker u.flight v.flight) where
   pub synced : AnswersCall g worker Sync u v (Synced v.committed v.moment) [] files
   synced = record {
@@ -188,9 +188,9 @@ module _ {D : Type 0} (g : Ghosts D) (worker : ℕ) (n number : ℕ) (u v : Core
 -- ---- a call that writes pages
 
 module _ {D : Type 0} (g : Ghosts D) (worker : ℕ) (call : Call) (u v : Core D) (files : ℕ) (unsynced : is_sync_call call ≡ false) (uncleaned : call ≡ Clean → ⊥) (are : files ≡ pages_of_files g v) (line : EndsLine worker u.flight v.flight) where
-  pub written_done : (reply : Reply) (out : List ℕ) → fault_in reply ≡ None → is_synced reply ≡ false → HasEffect g call None u v → AnswersOn g call u reply out → AnswersCall g worker call u v reply out files
+  pub written_done : (reply : Reply) (out : List ℕ) → fault_in reply ≡ None → is_synced reply ≡ false → MakesEffect g call None u v → AnswersOn g call u reply out → AnswersCall g worker call u v reply out files
   written_done reply out none plain x answers = record {
-    effect = plain_effect g call u v reply plain (subst (λ (f : Option FaultReply). HasEffect g call f u v) (sym none) x);
+    effect = plain_effect g call u v reply plain (subst (λ (f : Option FaultReply). MakesEffect g call f u v) (sym none) x);
     answers = answers;
     cause = subst (λ (f : Option FaultReply). IfSome f (FaultWithin g.tells (counts_of g u.device) (counts_of g v.device))) (sym none) tt;
     synced = plain ∙ sym (ap (λ b. b && is_none (fault_in reply)) unsynced);
@@ -199,8 +199,8 @@ module _ {D : Type 0} (g : Ghosts D) (worker : ℕ) (call : Call) (u v : Core D)
   }
 
   -- a refusal leaves the one tree as which the core runs
-  pub written_no : (refusal : Refusal) (n : ℕ) → IsCore g v → Goes g n u v → RunsAsSome g u
-      → (g.tells → (page_of_stamp : ℕ → Option PageOfStamp) (tree : Tree) → CoreRuns g u page_of_stamp tree → step (g.shape u.device) tree call ≡ record { reply = No refusal; bytes = []; tree = tree }) → AnswersCall g worker call u v (No refusal) [] files
+  pub written_no : (refusal : Refusal) (n : ℕ) → IsCore g v → PreservesVolume g n u v → RepresentsSomeTree g u
+      → (g.tells → (page_of_stamp : ℕ → Option PageOfStamp) (tree : Tree) → CoreRepresentsTree g u page_of_stamp tree → step (g.shape u.device) tree call ≡ record { reply = No refusal; bytes = []; tree = tree }) → AnswersCall g worker call u v (No refusal) [] files
   written_no refusal n core goes some is = written_done (No refusal) [] refl refl
       (record { between = v; core = core; most = n; goes = goes; steps = steps_none g v; makes = stays })
       (λ tells page_of_stamp tree runs. refused_answers (step (g.shape u.device) tree call) tree refusal (is tells page_of_stamp tree runs))
@@ -212,7 +212,7 @@ module _ {D : Type 0} (g : Ghosts D) (worker : ℕ) (call : Call) (u v : Core D)
           let one : k.1 ≡ tree = one_tree g v core on.pages page_of_stamp k.1 tree on.runs runs in
           let same : (step (g.shape v.device) tree call).tree ≡ tree =
           ap (λ (h : Shape). (step h tree call).tree) goes.same_shape ∙ (ap (λ (t : Tree). (step (g.shape u.device) t call).tree) (sym one) ∙ (ap (λ (x : Outcome). x.tree) (is tells k.0 k.1 k.2) ∙ one)) in
-          subst (RunsAs (g.shape v.device) (running_of g v) page_of_stamp) (sym same) runs.runs
+          subst (RepresentsTree (g.shape v.device) (running_of g v) page_of_stamp) (sym same) runs.runs
 
 pub writing_is : (call : Call) → IsWriting call → (is_sync_call call ≡ false) × (call ≡ Clean → ⊥)
 writing_is (Mkdir path) is = absurd is
@@ -230,7 +230,7 @@ writing_is Sync is = absurd is
 writing_is Clean is = absurd is
 
 -- done, as the call that writes tells it
-pub takes_effect : {D : Type 0} (g : Ghosts D) (most worker : ℕ) (call : Call) (u v : Core D) → TakesWithin g most worker call u v → HasEffect g call None u v
+pub takes_effect : {D : Type 0} (g : Ghosts D) (most worker : ℕ) (call : Call) (u v : Core D) → TakesWithin g most worker call u v → MakesEffect g call None u v
 takes_effect g most worker call u v x = record { between = x.between; core = x.core; most = most; goes = x.goes; steps = x.steps; makes = x.makes }
 
 -- a call that is neither a write nor a fill

@@ -15,12 +15,12 @@ use Rattle.nl_meta.specs.Consistent.{PageOfStamp}
 use Rattle.nl_journal_commit.specs.Holding.{running_holders}
 use Rattle.nl_core.specs.Calls.{CommitsAll}
 use Rattle.nl_core.specs.Core.{IsCore}
-use Rattle.nl_core.specs.Goes.{Goes}
-use Rattle.nl_core.specs.Rounds.{RoundIsDone}
-use Rattle.nl_core.specs.Trees.{CoreRuns}
+use Rattle.nl_core.specs.Goes.{PreservesVolume}
+use Rattle.nl_core.specs.Rounds.{ReclaimPassIsDone}
+use Rattle.nl_core.specs.Trees.{CoreRepresentsTree}
 use Rattle.nl_core.specs.declared.state.Core.{Core}
 use Rattle.nl_calls_steps.specs.Steps.{Steps}
-use Rattle.nl_calls_steps.specs.Calls.{MakesTree, OthersStay}
+use Rattle.nl_calls_steps.specs.Calls.{MakesTree, OtherLinesStay}
 
 -- the clock and the counts of faults of the medium
 abbrev pub counts_of : {D : Type 0} → Ghosts D → D → Counts
@@ -35,17 +35,17 @@ pages_of_files g v = length (running_holders g v.device v.meta)
 -- The worker has no line, and those of others stay.
 pub record EndsLine (worker : ℕ) (old new : List InFlight) : Type 0 where
   pub idle : of_worker new worker ≡ begun 0
-  pub others : OthersStay worker old new
+  pub others : OtherLinesStay worker old new
 
 -- ---- what the call does
 
 -- The core goes on, and then pages of the metadata change in memory, so that it makes of its tree what the call makes of it, with this
 -- fault, if it met one.
-pub record HasEffect {D : Type 0} (g : Ghosts D) (call : Call) (fault : Option FaultReply) (old new : Core D) : Type 0 where
+pub record MakesEffect {D : Type 0} (g : Ghosts D) (call : Call) (fault : Option FaultReply) (old new : Core D) : Type 0 where
   pub between : Core D
   pub core : IsCore g between
   pub most : ℕ
-  pub goes : Goes g most old between
+  pub goes : PreservesVolume g most old between
   pub steps : Steps g between new
   pub makes : MakesTree g between new (call, fault)
 
@@ -54,24 +54,24 @@ pub record Syncs {D : Type 0} (g : Ghosts D) (upto moment : ℕ) (old new : Core
   pub between : Core D
   pub core : IsCore g between
   pub before : ℕ
-  pub goes : Goes g before old between
+  pub goes : PreservesVolume g before old between
   pub most : ℕ
-  pub committing : Goes g most between new
+  pub committing : PreservesVolume g most between new
   pub number : ℕ
   pub commits : CommitsAll g between new number
   pub upto_is : upto ≡ new.committed
   pub moment_is : moment ≡ new.moment
 
 -- The core goes on, and then a round of reclaiming is done.
-pub record Cleans {D : Type 0} (g : Ghosts D) (m : Moving D) (old new : Core D) : Type 0 where
+pub record RunsReclaimPass {D : Type 0} (g : Ghosts D) (m : Moving D) (old new : Core D) : Type 0 where
   pub between : Core D
   pub most : ℕ
-  pub goes : Goes g most old between
-  pub round : RoundIsDone g m between new
+  pub goes : PreservesVolume g most old between
+  pub round : ReclaimPassIsDone g m between new
 
 abbrev pub HasEffectOf : {D : Type 0} → Ghosts D → Call → Core D → Core D → Reply → Type 0
 HasEffectOf g call old new (Synced upto moment) = Syncs g upto moment old new
-HasEffectOf g call old new reply = HasEffect g call (fault_in reply) old new
+HasEffectOf g call old new reply = MakesEffect g call (fault_in reply) old new
 
 -- ---- what it answers
 
@@ -86,7 +86,7 @@ is_sync_call _ = false
 -- On each tree as which the core ran, the call has this reply and these bytes, with the fault of the reply if it is one.
 abbrev pub AnswersOn : {D : Type 0} → Ghosts D → Call → Core D → Reply → List ℕ → Type 0
 AnswersOn g call old reply out =
-    g.tells → (page_of_stamp : ℕ → Option PageOfStamp) (tree : Tree) → CoreRuns g old page_of_stamp tree
+    g.tells → (page_of_stamp : ℕ → Option PageOfStamp) (tree : Tree) → CoreRepresentsTree g old page_of_stamp tree
     → Answers (step_marked (g.shape old.device) tree (call, fault_in reply)) reply out
 
 -- A call that was tried: its reply is the one that is due, it had its effect, and a fault has its cause within it. Exactly a sync without a

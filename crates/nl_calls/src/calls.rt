@@ -1,14 +1,14 @@
 ghost use Rattle.std.specs.Prelude.{◌≡◌, ◌<◌, ◌≤◌, [], ℕ, length};
 ghost use Rattle.nl_core.specs.Core.{IsCore};
-ghost use Rattle.nl_core.specs.Programming.{HasLine};
+ghost use Rattle.nl_core.specs.Programming.{HasLineOrNone};
 ghost use Rattle.nl_calls_steps.specs.Lines.{worker_pages};
-ghost use Rattle.nl_calls_steps.specs.Calls.{RunsAsSome};
+ghost use Rattle.nl_calls_steps.specs.Calls.{RepresentsSomeTree};
 ghost use Rattle.nl_flight.specs.Flight.{begun, of_worker};
 ghost use Rattle.nl_tree.specs.Calls.{IsBounded};
 ghost use Rattle.nl_tree.specs.declared.call.Call.TheVariants.{Clean};
 ghost use Rattle.nl_calls_write.specs.Calls.{AreStaged};
 ghost use Rattle.nl_calls_bytes.specs.Ranges.{IsWriting};
-ghost use Rattle.nl_calls.specs.Answering.{AnswersCall, Cleans, MayTry, pages_of_files};
+ghost use Rattle.nl_calls.specs.Answering.{AnswersCall, RunsReclaimPass, MayTry, pages_of_files};
 
 use crate::answer::Answer;
 use crate::cleaning::clean;
@@ -39,9 +39,9 @@ pub fn answer_call<D: MovingPages>(
     requires core { IsCore D.Counts core.old }
     requires known { worker < 8 }
     requires some { 0 < line }
-    requires line { HasLine core.old.flight worker line }
+    requires line { HasLineOrNone core.old.flight worker line }
     requires may { MayTry D.Counts call.now core.old }
-    requires runs { RunsAsSome D.Counts core.old }
+    requires runs { RepresentsSomeTree D.Counts core.old }
     requires bounded { IsBounded call.now }
     requires files { files ≡ pages_of_files D.Counts core.old }
     requires staged { AreStaged D.Counts core.old call.now (worker_pages core.old worker) }
@@ -49,7 +49,7 @@ pub fn answer_call<D: MovingPages>(
     requires nothing { out.old ≡ [] }
     ensures core { IsCore D.Counts core.new }
     ensures answers { AnswersCall D.Counts worker call.now core.old core.new result.reply out.new result.files }
-    ensures cleaned { call.now ≡ Clean → result.reply ≡ Reply.Done → Cleans D.Counts D.MovingPages.own core.old core.new }
+    ensures cleaned { call.now ≡ Clean → result.reply ≡ Reply.Done → RunsReclaimPass D.Counts D.MovingPages.own core.old core.new }
 {
     match call {
         Call::Write(..) | Call::Fill(..) => write(core, worker, line, call, files, page),
@@ -76,14 +76,14 @@ fn answer_other<D: MovingPages>(
     requires some { 0 < line }
     requires idle { of_worker core.old.flight worker ≡ begun 0 }
     requires may { MayTry D.Counts call.now core.old }
-    requires runs { RunsAsSome D.Counts core.old }
+    requires runs { RepresentsSomeTree D.Counts core.old }
     requires bounded { IsBounded call.now }
     requires files { files ≡ pages_of_files D.Counts core.old }
     requires nothing { out.old ≡ [] }
     requires other { IsWriting call.now → ⊥ }
     ensures core { IsCore D.Counts core.new }
     ensures answers { AnswersCall D.Counts worker call.now core.old core.new result.reply out.new result.files }
-    ensures cleaned { call.now ≡ Clean → result.reply ≡ Reply.Done → Cleans D.Counts D.MovingPages.own core.old core.new }
+    ensures cleaned { call.now ≡ Clean → result.reply ≡ Reply.Done → RunsReclaimPass D.Counts D.MovingPages.own core.old core.new }
 {
     match call {
         Call::Read(..) | Call::Stat(_) | Call::List(_) => look(

@@ -2,7 +2,7 @@ ghost use Rattle.std.specs.Prelude.{◌≡◌, ◌+◌, ◌^◌, ◌≤◌, []};
 ghost use Rattle.nl_core.specs.Core.{IsCore};
 ghost use Rattle.nl_flight.specs.Flight.{begun, of_worker};
 ghost use Rattle.nl_tree.specs.declared.call.Call.TheVariants.{Clean};
-ghost use Rattle.nl_calls.specs.Answering.{AnswersCall, Cleans, pages_of_files};
+ghost use Rattle.nl_calls.specs.Answering.{AnswersCall, RunsReclaimPass, pages_of_files};
 
 use crate::answer::{Answer, failed};
 use nl_core::laws::pages_stay_as_many;
@@ -20,7 +20,7 @@ pub(crate) fn clean<D: MovingPages>(core: &mut Core<D>, worker: u8, files: u32) 
     requires files { files ≡ pages_of_files D.Counts core.old }
     ensures core { IsCore D.Counts core.new }
     ensures answers { AnswersCall D.Counts worker Clean core.old core.new result.reply [] result.files }
-    ensures cleaned { result.reply ≡ Reply.Done → Cleans D.Counts D.MovingPages.own core.old core.new }
+    ensures cleaned { result.reply ≡ Reply.Done → RunsReclaimPass D.Counts D.MovingPages.own core.old core.new }
 {
     pages_stay_as_many();
     device_stands(&core.device);

@@ -1,8 +1,8 @@
 ghost use Rattle.std.specs.Prelude.{◌≡◌, ◌+◌, ◌-◌, ◌^◌, ◌≤◌, []};
 ghost use Rattle.nl_core.specs.Core.{IsCore};
 ghost use Rattle.nl_flight.specs.Flight.{begun, of_worker};
-ghost use Rattle.nl_dir.specs.Directory.{HasRoomFor};
-ghost use Rattle.nl_namespace.specs.Calls.{HasNames, IsOfNames};
+ghost use Rattle.nl_dir.specs.Directory.{HasRoomForDirty};
+ghost use Rattle.nl_namespace.specs.Calls.{PathsHaveNames, IsOfNames};
 ghost use Rattle.nl_calls.specs.Answering.{AnswersCall, pages_of_files};
 
 use crate::answer::{Answer, failed};
@@ -28,7 +28,7 @@ pub(crate) fn name<D: MovingPages>(
     requires writes { core.old.stopped ≡ 0 }
     requires stamp { D.next_stamp core.old.device + 512 ≤ 2 ^ 63 }
     requires idle { of_worker core.old.flight worker ≡ begun 0 }
-    requires names { HasNames call.now }
+    requires names { PathsHaveNames call.now }
     requires of_names { IsOfNames call.now }
     requires files { files ≡ pages_of_files D.Counts core.old }
     ensures core { IsCore D.Counts core.new }
@@ -57,9 +57,9 @@ pub(crate) fn name<D: MovingPages>(
 // A call that changes names, where nine more pages may become dirty. Pages of a file that is gone await their free then.
 fn name_now<D: MovingPages>(core: &mut Core<D>, worker: u8, call: &Call, files: u32) -> Answer
     requires core { IsCore D.Counts core.old }
-    requires room { HasRoomFor 9 core.old.meta }
+    requires room { HasRoomForDirty 9 core.old.meta }
     requires idle { of_worker core.old.flight worker ≡ begun 0 }
-    requires names { HasNames call.now }
+    requires names { PathsHaveNames call.now }
     requires of_names { IsOfNames call.now }
     requires files { files ≡ pages_of_files D.Counts core.old }
     ensures core { IsCore D.Counts core.new }

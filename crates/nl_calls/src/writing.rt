@@ -1,10 +1,10 @@
 ghost use Rattle.std.specs.Prelude.{◌≡◌, ◌^◌, ◌<◌, []};
 ghost use Rattle.nl_core.specs.Core.{IsCore};
-ghost use Rattle.nl_core.specs.Goes.{Goes};
+ghost use Rattle.nl_core.specs.Goes.{PreservesVolume};
 ghost use Rattle.nl_tree.specs.Calls.{IsBounded};
 ghost use Rattle.nl_tree.specs.Causes.{fault_sum};
 ghost use Rattle.nl_tree.specs.declared.call.Call.TheVariants.{Truncate};
-ghost use Rattle.nl_calls_steps.specs.Calls.{RunsAsSome};
+ghost use Rattle.nl_calls_steps.specs.Calls.{RepresentsSomeTree};
 ghost use Rattle.nl_calls_write.specs.Calls.{CanWriteLine};
 ghost use Rattle.nl_calls_bytes.specs.Ranges.{IsWriting};
 ghost use Rattle.nl_calls.specs.Answering.{AnswersCall, EndsLine, counts_of, pages_of_files};
@@ -71,7 +71,7 @@ pub(crate) fn truncate<D: MovingPages>(
     requires core { IsCore D.Counts core.old }
     requires writes { core.old.stopped ≡ 0 }
     requires stamp { D.next_stamp core.old.device < 2 ^ 62 }
-    requires runs { RunsAsSome D.Counts core.old }
+    requires runs { RepresentsSomeTree D.Counts core.old }
     requires known { worker < 8 }
     requires some { 0 < line }
     requires files { files ≡ pages_of_files D.Counts core.old }
@@ -103,7 +103,7 @@ fn undone<D: MovingPages>(core: &mut Core<D>, worker: u8, reply: Reply, files: u
     requires core { IsCore D.Counts core.old }
     requires known { worker < 8 }
     ensures core { IsCore D.Counts core.new }
-    ensures goes { Goes D.Counts 0 core.old core.new }
+    ensures goes { PreservesVolume D.Counts 0 core.old core.new }
     ensures line { EndsLine worker core.old.flight core.new.flight }
     ensures faults { fault_sum (counts_of D.Counts core.new.device) ≡ fault_sum (counts_of D.Counts core.old.device) }
     ensures answer { (result.reply ≡ reply) × (result.files ≡ files) }

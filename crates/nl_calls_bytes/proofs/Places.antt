@@ -9,7 +9,7 @@ use Rattle.nl_field.specs.Members.{Has}
 use Rattle.nl_field.specs.Numbers.{max_bytes}
 use Rattle.nl_tree.specs.CountLaws.{Differ}
 use Rattle.nl_tree.specs.declared.call.Call.{Call}
-use Rattle.nl_flight.specs.Flight.{HasPlace, InFlight, extra, of_worker}
+use Rattle.nl_flight.specs.Flight.{HasFlightRoom, InFlight, extra, of_worker}
 use Rattle.nl_flight.specs.declared.page.FlightPage.{FlightPage}
 use Rattle.nl_meta.proofs.Facts.{EachTwo}
 use Rattle.nl_meta.proofs.Lists.{range-member}
@@ -50,7 +50,7 @@ module _ (n generation : ℕ) (call : Call) (pages : List FlightPage) (are : Are
       by (x ∷ ps) a (inr rest) = by ps (record { tag = λ k p at. a.tag (suc k) p at; written = λ k p at. a.written (suc k) p at; stamp = λ k p at. a.stamp (suc k) p at; differ = a.differ.1 }) rest
 
   pub has_place : (flight : List InFlight) (worker i : ℕ) → (of_worker flight worker).pages ≡ pages → is_flying pages i ≡ false → is_written call i ≡ true → len_of call ≤ max_bytes
-      → ((w : ℕ) → w ≢ worker → length (of_worker flight w).pages ≤ 16) → HasPlace flight worker
+      → ((w : ℕ) → w ≢ worker → length (of_worker flight w).pages ≤ 16) → HasFlightRoom flight worker
   has_place flight worker i own far written few others =
       by (cases_lt (length (of_worker flight worker).pages) 16)
     where
@@ -84,7 +84,7 @@ module _ (n generation : ℕ) (call : Call) (pages : List FlightPage) (are : Are
       each w (inl e) = let l = longest in let s = same in let here = ap (λ (k : ℕ). length (of_worker flight k).pages) e in omega (arith, l, s, here)
       each w (inr off) = others w off
 
-      by : (length (of_worker flight worker).pages < 16) ⊎ (16 ≤ length (of_worker flight worker).pages) → HasPlace flight worker
+      by : (length (of_worker flight worker).pages < 16) ⊎ (16 ≤ length (of_worker flight worker).pages) → HasFlightRoom flight worker
       by (inl low) = inl low
       by (inr high) = inr (let none = none_extra flight (λ w. each w (cases_eq w worker)) in omega (arith, none))
 

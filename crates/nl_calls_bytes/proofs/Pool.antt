@@ -11,7 +11,7 @@ use Rattle.nl_tree.specs.CountLaws.{Differ}
 use Rattle.nl_tree.proofs.CountProofs.{count_laws}
 use Rattle.nl_calls_bytes.proofs.Counted.{count_same}
 use Rattle.nl_calls_files.specs.LineNeeds.{free_addresses}
-use Rattle.nl_inode.specs.FreeLaws.{PoolIsFree, Uses}
+use Rattle.nl_inode.specs.FreeLaws.{PoolIsFree, UsesAddress}
 use Rattle.nl_inode.specs.Nodes.{Spaces}
 use Rattle.nl_meta.specs.Committed.{VirtualMap}
 use Rattle.nl_meta.specs.Consistent.{AddressesRight}
@@ -95,7 +95,7 @@ module _ (shape : Shape) (pages : VirtualMap) where
   unfoldable all : List ℕ
   all = map (λ (y : Bool × ℕ). y.1) (flat_map addresses_of (used_nodes shape pages))
 
-  listed : (a : ℕ) → Uses shape pages a → Has all a
+  listed : (a : ℕ) → UsesAddress shape pages a → Has all a
   unfolding all
   listed a u =
       let at = u.2 in
@@ -103,14 +103,14 @@ module _ (shape : Shape) (pages : VirtualMap) where
       (flat-member addresses_of (used_nodes shape pages) (u.0, at.rec) (is_file_kind at.rec.kind, a) (is_used shape pages u.0 at.rec at.is_node)
       (map-member (λ a. (is_file_kind at.rec.kind, a)) (filter (λ a. not (a == 0)) at.rec.addresses) a (filter-member (λ a. not (a == 0)) at.rec.addresses a (place-has at.rec.addresses u.1 a at.in_slot) (not_from_false _ (ne_eqb a 0 at.not_zero)))))
 
-  used : (a : ℕ) → Has all a → Uses shape pages a
+  used : (a : ℕ) → Has all a → UsesAddress shape pages a
   unfolding all
   used a h =
       let y = member-map (λ (y : Bool × ℕ). y.1) (flat_map addresses_of (used_nodes shape pages)) a h in
       let m = member_address shape pages y.0 y.1 in
       let slot = slot-of m.1.addresses m.2 m.4 in
       let same = ap (λ (z : Bool × ℕ). z.1) m.6 ∙ y.2 in
-      subst (Uses shape pages) same (m.0, slot.0, record { rec = m.1; is_node = m.3; in_slot = slot.1; not_zero = m.5 })
+      subst (UsesAddress shape pages) same (m.0, slot.0, record { rec = m.1; is_node = m.3; in_slot = slot.1; not_zero = m.5 })
 
 module _ (shape : Shape) (pages : VirtualMap) (bounds : ShapeBounds shape) (right : AddressesRight shape pages) (s : Spaces) (free : PoolIsFree shape pages s) (count : length s.pool ≡ shape.meta) where
   in-use : List ℕ

@@ -33,7 +33,7 @@ use Rattle.nl_spec_image.specs.Stands.{bytes_for}
 use Rattle.nl_spec_image.proofs.GraphOfPages.{node_is}
 use Rattle.nl_spec_image.proofs.SoundProofs.{right_charges}
 use Rattle.nl_files.proofs.ContentFacts.{pages_by_pointers}
-use Rattle.nl_spec_commits.specs.Trees.{RunsAs}
+use Rattle.nl_spec_commits.specs.Trees.{RepresentsTree}
 use Rattle.nl_calls_bytes.specs.Contents.{count_indexes, first_index, indexes_written}
 use Rattle.nl_calls_files.specs.LineNeeds.{free_addresses, gets_page, new_pointers, new_ranges}
 use Rattle.nl_calls_bytes.specs.Room.{room_refusal}
@@ -51,7 +51,7 @@ pub record IsWriteAt (tree : Tree) (call : Call) (path : List (List ℕ)) (from 
   pub effect : (effect_of tree call).tree ≡ with_content tree path (written_over (content_of (node_at tree path)) from bytes)
   pub some : 0 < length bytes
 
-module _ (shape : Shape) (pages : VirtualMap) (page_of_stamp : ℕ → Option PageOfStamp) (tree : Tree) (runs : RunsAs shape pages page_of_stamp tree) (room : None ≡ space_refusal shape tree) (s : Spaces) (pool : PoolIsFree shape pages s) (count : length s.pool ≡ shape.meta) (n : ℕ) (rec : InodeRec) (is : IsNode shape pages n rec) (is_file : rec.kind ≡ File) (good : IsFileRecord rec)
+module _ (shape : Shape) (pages : VirtualMap) (page_of_stamp : ℕ → Option PageOfStamp) (tree : Tree) (runs : RepresentsTree shape pages page_of_stamp tree) (room : None ≡ space_refusal shape tree) (s : Spaces) (pool : PoolIsFree shape pages s) (count : length s.pool ≡ shape.meta) (n : ℕ) (rec : InodeRec) (is : IsNode shape pages n rec) (is_file : rec.kind ≡ File) (good : IsFileRecord rec)
     (call : Call) (path : List (List ℕ)) (from : ℕ) (bytes : List ℕ) (write : IsWriteAt tree call path from bytes)
     (at : node_at tree path ≡ Some (file (record { size = rec.size; pages = map (λ (p : ℕ × Pointer). (p.0, bytes_for page_of_stamp p.1.stamp)) (pointers_of_inode pages rec) }))) where
   held : FileContent
@@ -136,7 +136,7 @@ module _ (shape : Shape) (pages : VirtualMap) (page_of_stamp : ℕ → Option Pa
       (let a = pool-counted shape pages (subst ShapeBounds (sym runs.right.numbers) (bounds shape.blocks shape.pages runs.right.legal)) runs.right.tree.addresses s pool count in let b = charges.meta_pages in omega (arith, a, b))
       ranges-then charges.data_pages pages-more
 
-module _ (shape : Shape) (pages : VirtualMap) (page_of_stamp : ℕ → Option PageOfStamp) (tree : Tree) (runs : RunsAs shape pages page_of_stamp tree) (room : None ≡ space_refusal shape tree) (s : Spaces) (pool : PoolIsFree shape pages s) (count : length s.pool ≡ shape.meta) (n : ℕ) (rec : InodeRec) (is : IsNode shape pages n rec) (is_file : rec.kind ≡ File) (good : IsFileRecord rec) where
+module _ (shape : Shape) (pages : VirtualMap) (page_of_stamp : ℕ → Option PageOfStamp) (tree : Tree) (runs : RepresentsTree shape pages page_of_stamp tree) (room : None ≡ space_refusal shape tree) (s : Spaces) (pool : PoolIsFree shape pages s) (count : length s.pool ≡ shape.meta) (n : ℕ) (rec : InodeRec) (is : IsNode shape pages n rec) (is_file : rec.kind ≡ File) (good : IsFileRecord rec) where
   pub writes-refused : (call : Call) → IsWriting call → 0 < len_of call → node_reached (graph_of shape pages) 0 (path_of call) ≡ Some n
       → room_refusal (free_addresses s) (new_ranges rec (indexes_written (from_of call) (len_of call))) shape.cap (length (held_in shape pages)) (new_pointers pages rec (indexes_written (from_of call) (len_of call)))
       ≡ space_refusal shape (effect_of tree call).tree

@@ -18,7 +18,7 @@ use Rattle.nl_indirect.specs.Ranges.{IsFileRecord}
 use Rattle.nl_meta.specs.Committed.{VirtualMap}
 use Rattle.nl_meta.specs.Consistent.{IsNode, PageOfStamp}
 use Rattle.nl_meta.specs.Nodes.{graph_of, held_in}
-use Rattle.nl_spec_commits.specs.Trees.{RunsAs}
+use Rattle.nl_spec_commits.specs.Trees.{RepresentsTree}
 use Rattle.nl_calls_bytes.specs.Contents.{IsWholeWrite, indexes_written}
 use Rattle.nl_calls_files.specs.LineNeeds.{free_addresses, new_pointers, new_ranges, with_pages}
 use Rattle.nl_calls_files.specs.Refusals.{LooksRefuse, refusal_of_path}
@@ -37,7 +37,7 @@ PagesMakeWrite =
 abbrev pub RoomRefuses : Type 0
 RoomRefuses =
     (shape : Shape) (pages : VirtualMap) (page_of_stamp : ℕ → Option PageOfStamp) (tree : Tree) (spaces : Spaces) (n : ℕ) (rec : InodeRec)
-    (call : Call) → RunsAs shape pages page_of_stamp tree
+    (call : Call) → RepresentsTree shape pages page_of_stamp tree
     → None ≡ space_refusal shape tree → PoolIsFree shape pages spaces → length spaces.pool ≡ shape.meta → IsNode shape pages n rec
     → rec.kind ≡ File → IsFileRecord rec
     → IsWriting call → 0 < len_of call → node_reached (graph_of shape pages) 0 (path_of call) ≡ Some n
@@ -49,7 +49,7 @@ RoomRefuses =
 abbrev pub LooksRefuseAll : Type 0
 LooksRefuseAll =
     (shape : Shape) (pages : VirtualMap) (page_of_stamp : ℕ → Option PageOfStamp) (tree : Tree) (path : List (List ℕ))
-    → RunsAs shape pages page_of_stamp tree → is_too_long path ≡ false
+    → RepresentsTree shape pages page_of_stamp tree → is_too_long path ≡ false
     → LooksRefuse shape pages tree path
 
 -- The step of a call that writes: it is refused by its path, by its end, or for want of room, in this order, and else done.

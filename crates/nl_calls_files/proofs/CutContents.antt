@@ -29,7 +29,7 @@ use Rattle.nl_spec_image.proofs.PagesOfFiles.{sorted_in}
 use Rattle.nl_files.specs.Contents.{page_by_stamp}
 use Rattle.nl_files.specs.CutRuns.{CutIsWritten}
 use Rattle.nl_files.proofs.ContentFacts.{pages_by_pointers}
-use Rattle.nl_calls_files.specs.FileTrees.{HasPages, held_content}
+use Rattle.nl_calls_files.specs.FileTrees.{FileHasPages, held_content}
 
 -- a page that holds nothing behind the size is as it would be cut
 cut_same : (size index : ℕ) (page : List ℕ) → length page ≡ 4096 → IsTrue (all_zero (drop (size - 4096 * index) page)) → cut_page size index page ≡ page
@@ -51,7 +51,7 @@ pub record Replaces (page_of_stamp : ℕ → Option PageOfStamp) (before : Virtu
   pub bytes : bytes_for page_of_stamp to.stamp ≡ cut_page size (size / 4096) (bytes_for page_of_stamp (pointer_at before was (size / 4096)).stamp)
 
 module _ (page_of_stamp : ℕ → Option PageOfStamp) (shape : Shape) (n size : ℕ) (partial : Option Pointer) (was is : InodeRec) (before after : VirtualMap) (s t : Spaces) (file : IsFileRecord was) (file_after : IsFileRecord is) (sized : is.size ≡ size)
-    (c : CutIsWritten shape n size partial was is before after s t) (pages : HasPages after page_of_stamp n is) (replaces : IfSome partial (Replaces page_of_stamp before was size)) where
+    (c : CutIsWritten shape n size partial was is before after s t) (pages : FileHasPages after page_of_stamp n is) (replaces : IfSome partial (Replaces page_of_stamp before was size)) where
   abbrev bytes : ℕ → List ℕ
   bytes = bytes_for page_of_stamp
 

@@ -38,7 +38,7 @@ use Rattle.nl_spec_image.proofs.GraphOfPages.{entry_found, entry_is, good_entry,
 use Rattle.nl_spec_image.proofs.SoundProofs.{right_charges}
 use Rattle.nl_spec_image.proofs.Sums.{length_mapped}
 use Rattle.nl_spec_image.proofs.TreeOfPages.{node_here}
-use Rattle.nl_spec_commits.specs.Trees.{RunsAs}
+use Rattle.nl_spec_commits.specs.Trees.{RepresentsTree}
 use Rattle.nl_calls_files.proofs.Entries.{IsUnder, Path, entries-count, node-for}
 
 -- a used node that is no file is a directory
@@ -51,7 +51,7 @@ some-for : (o : Option Node) (d x : Node) → o ≡ Some x → o ≡ Some (unwra
 some-for None d x e = absurd (none_some x e)
 some-for (Some y) d x e = refl
 
-module _ (shape : Shape) (pages : VirtualMap) (page_of_stamp : ℕ → Option PageOfStamp) (tree : Tree) (runs : RunsAs shape pages page_of_stamp tree) where
+module _ (shape : Shape) (pages : VirtualMap) (page_of_stamp : ℕ → Option PageOfStamp) (tree : Tree) (runs : RepresentsTree shape pages page_of_stamp tree) where
   abbrev g : Graph
   g = graph shape pages
 

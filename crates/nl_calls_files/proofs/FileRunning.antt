@@ -17,7 +17,7 @@ use Rattle.nl_iface.specs.Names.{Has, Names}
 use Rattle.nl_iface.specs.declared.counts.Counts.{Ghosts}
 use Rattle.nl_inode.specs.Nodes.{Spaces}
 use Rattle.nl_meta.specs.Committed.{VirtualMap}
-use Rattle.nl_meta.specs.Consistent.{IsThere, PageOfStamp, RightFor}
+use Rattle.nl_meta.specs.Consistent.{PointerIsThere, PageOfStamp, RightFor}
 use Rattle.nl_meta.specs.Nodes.{Held, held_in, pointer_at, pointers_at}
 use Rattle.nl_meta.specs.PointerLists.{IsFile, with_tag}
 use Rattle.nl_meta.proofs.SlotProofs.{at_index}
@@ -25,16 +25,16 @@ use Rattle.nl_spec_image.specs.RightFor.{PagesRepresent}
 use Rattle.nl_spec_image.proofs.SoundProofs.{right_charges}
 use Rattle.nl_files.specs.CutRuns.{CutIsWritten}
 use Rattle.nl_files.specs.InstallLaws.{FileIsInstalled}
-use Rattle.nl_spec_commits.specs.Trees.{RunsAs}
+use Rattle.nl_spec_commits.specs.Trees.{RepresentsTree}
 use Rattle.nl_calls_files.specs.FileRuns.{CutHasPages, EndsWith, FileBecomes, FileRunsOn, HeldLeadOnce, InstalledHasPages, IsPageAt}
-use Rattle.nl_calls_files.specs.FileTrees.{HasPages, held_at, held_content}
+use Rattle.nl_calls_files.specs.FileTrees.{FileHasPages, held_pointer, held_content}
 use Rattle.nl_calls_files.proofs.FileTrees.{file_changes_tree}
 use Rattle.nl_calls_files.proofs.FilesRight.{stays_right}
 use Rattle.nl_calls_files.proofs.Fits.{all_length, in_all}
 
 -- ---- a file changes
 
-module _ (shape : Shape) (old new : VirtualMap) (page_of_stamp : ℕ → Option PageOfStamp) (names : Names) (n : ℕ) (was is : InodeRec) (path : List (List ℕ)) (tree : Tree) (r : RunsAs shape old page_of_stamp tree)
+module _ (shape : Shape) (old new : VirtualMap) (page_of_stamp : ℕ → Option PageOfStamp) (names : Names) (n : ℕ) (was is : InodeRec) (path : List (List ℕ)) (tree : Tree) (r : RepresentsTree shape old page_of_stamp tree)
     (b : FileBecomes shape old new page_of_stamp names n was is path) where
   right : RightFor shape new page_of_stamp
   right = stays_right shape old new page_of_stamp names n is (record {
@@ -61,7 +61,7 @@ module _ (shape : Shape) (old new : VirtualMap) (page_of_stamp : ℕ → Option 
     leads = b.leads;
   }) r.represents
 
-  pub runs_on : RunsAs shape new page_of_stamp changed_tree
+  pub runs_on : RepresentsTree shape new page_of_stamp changed_tree
   runs_on = record {
     right = right;
     represents = represents;
@@ -94,8 +94,8 @@ zeros_past (x ∷ xs) zero le = absurd (omega (arith, le))
 zeros_past (x ∷ xs) (suc k) le = zeros_past xs k (omega (arith, le))
 
 -- a page that is there is so for a size that holds what is behind it
-there_again : (page_of_stamp : ℕ → Option PageOfStamp) (h k : Held) → IsThere page_of_stamp h → k.tag ≡ h.tag → k.pointer ≡ h.pointer → (h.size - 4096 * h.tag.index ≤ k.size - 4096 * h.tag.index) ⊎ (4096 ≤ k.size - 4096 * h.tag.index)
-    → IsThere page_of_stamp k
+there_again : (page_of_stamp : ℕ → Option PageOfStamp) (h k : Held) → PointerIsThere page_of_stamp h → k.tag ≡ h.tag → k.pointer ≡ h.pointer → (h.size - 4096 * h.tag.index ≤ k.size - 4096 * h.tag.index) ⊎ (4096 ≤ k.size - 4096 * h.tag.index)
+    → PointerIsThere page_of_stamp k
 there_again page_of_stamp h k t tag pointer holds = record {
   bytes = t.bytes;
   holds = ap (λ (p : Pointer). page_of_stamp p.stamp) pointer ∙ t.holds ∙ ap (λ (x : Tag). Some (record { tag = x; bytes = t.bytes })) (sym tag);
@@ -121,21 +121,21 @@ module _ (shape : Shape) (page_of_stamp : ℕ → Option PageOfStamp) (n : ℕ) 
   was_some : is_none_pointer (pointer_at before was i) ≡ false
   was_some = ap is_none_pointer (sym same) ∙ some
 
-  listed : members.Has (held_in shape before) (held_at n before was i)
+  listed : members.Has (held_in shape before) (held_pointer n before was i)
   listed = in_all shape before n was file i (inside shape before n was file i was_some) was_some
 
   had_below : i < div_ceil was.size 4096
-  had_below = r.tree.pointers.below (held_at n before was i) listed
+  had_below = r.tree.pointers.below (held_pointer n before was i) listed
 
-  has : (was.size - 4096 * i ≤ is.size - 4096 * i) ⊎ (4096 ≤ is.size - 4096 * i) → IsThere page_of_stamp (held_at n after is i)
-  has holds = there_again page_of_stamp (held_at n before was i) (held_at n after is i) (r.tree.pointers.there (held_at n before was i) listed)
+  has : (was.size - 4096 * i ≤ is.size - 4096 * i) ⊎ (4096 ≤ is.size - 4096 * i) → PointerIsThere page_of_stamp (held_pointer n after is i)
+  has holds = there_again page_of_stamp (held_pointer n before was i) (held_pointer n after is i) (r.tree.pointers.there (held_pointer n before was i) listed)
       (ap (λ (k : ℕ). record { ino = n; generation = k; index = i }) generation) same holds
 
 -- a file of metadata that is right has its pages
-pub file_has_pages : (shape : Shape) (page_of_stamp : ℕ → Option PageOfStamp) (n : ℕ) (rec : InodeRec) (pages : VirtualMap) → RightFor shape pages page_of_stamp → IsFile shape pages n rec → HasPages pages page_of_stamp n rec
+pub file_has_pages : (shape : Shape) (page_of_stamp : ℕ → Option PageOfStamp) (n : ℕ) (rec : InodeRec) (pages : VirtualMap) → RightFor shape pages page_of_stamp → IsFile shape pages n rec → FileHasPages pages page_of_stamp n rec
 file_has_pages shape page_of_stamp n rec pages r file = record {
-  below = λ i some. r.tree.pointers.below (held_at n pages rec i) (in_all shape pages n rec file i (inside shape pages n rec file i some) some);
-  there = λ i some. r.tree.pointers.there (held_at n pages rec i) (in_all shape pages n rec file i (inside shape pages n rec file i some) some);
+  below = λ i some. r.tree.pointers.below (held_pointer n pages rec i) (in_all shape pages n rec file i (inside shape pages n rec file i some) some);
+  there = λ i some. r.tree.pointers.there (held_pointer n pages rec i) (in_all shape pages n rec file i (inside shape pages n rec file i some) some);
 }
 
 -- ---- a pointer is installed
@@ -146,13 +146,13 @@ module _ (shape : Shape) (page_of_stamp : ℕ → Option PageOfStamp) (n index :
   below_at i some (inl here) = omega (arith, here, below)
   below_at i some (inr far) = let low = had_below shape page_of_stamp n was is before after r file c.pointer.generation i (c.pointer.others i far) some in omega (arith, low, longer)
 
-  there_at : (i : ℕ) → is_none_pointer (pointer_at after is i) ≡ false → (i ≡ index) ⊎ (i ≢ index) → IsThere page_of_stamp (held_at n after is i)
+  there_at : (i : ℕ) → is_none_pointer (pointer_at after is i) ≡ false → (i ≡ index) ⊎ (i ≢ index) → PointerIsThere page_of_stamp (held_pointer n after is i)
   there_at i some (inl here) =
-      subst (λ (j : ℕ). IsThere page_of_stamp (held_at n after is j)) (sym here)
-      (subst (λ (p : Pointer). IsThere page_of_stamp (record { size = is.size; tag = record { ino = n; generation = is.generation; index = index }; pointer = p })) (sym c.now) page)
+      subst (λ (j : ℕ). PointerIsThere page_of_stamp (held_pointer n after is j)) (sym here)
+      (subst (λ (p : Pointer). PointerIsThere page_of_stamp (record { size = is.size; tag = record { ino = n; generation = is.generation; index = index }; pointer = p })) (sym c.now) page)
   there_at i some (inr far) = has shape page_of_stamp n was is before after r file c.pointer.generation i (c.pointer.others i far) some (inl (omega (arith, longer)))
 
-  pub installed_pages : HasPages after page_of_stamp n is
+  pub installed_pages : FileHasPages after page_of_stamp n is
   installed_pages = record { below = λ i some. below_at i some (cases_eq i index); there = λ i some. there_at i some (cases_eq i index) }
 
 pub installed_has_pages : InstalledHasPages
@@ -166,11 +166,11 @@ module _ (shape : Shape) (page_of_stamp : ℕ → Option PageOfStamp) (n size : 
   cut_below : (i : ℕ) → is_none_pointer (pointer_at after is i) ≡ false → i < div_ceil size 4096
   cut_below i some = ⊎_elim (λ low. low) (λ far. absurd (both_ways true (sym (ap is_none_pointer (c.gone i far)) ∙ some) refl)) (cases_lt i (div_ceil size 4096))
 
-  stayed : (i : ℕ) → is_none_pointer (pointer_at after is i) ≡ false → pointer_at after is i ≡ pointer_at before was i → (was.size - 4096 * i ≤ is.size - 4096 * i) ⊎ (4096 ≤ is.size - 4096 * i) → IsThere page_of_stamp (held_at n after is i)
+  stayed : (i : ℕ) → is_none_pointer (pointer_at after is i) ≡ false → pointer_at after is i ≡ pointer_at before was i → (was.size - 4096 * i ≤ is.size - 4096 * i) ⊎ (4096 ≤ is.size - 4096 * i) → PointerIsThere page_of_stamp (held_pointer n after is i)
   stayed i some same holds = has shape page_of_stamp n was is before after r file c.changes.generation i same some holds
 
   cut_there : (i : ℕ) → is_none_pointer (pointer_at after is i) ≡ false → (o : Option Pointer) → partial ≡ o → EndsWith page_of_stamp n size before was is o → IfSome o (λ p. pointer_at after is (size / 4096) ≡ p)
-      → (i ≡ size / 4096) ⊎ (i ≢ size / 4096) → IsThere page_of_stamp (held_at n after is i)
+      → (i ≡ size / 4096) ⊎ (i ≢ size / 4096) → PointerIsThere page_of_stamp (held_pointer n after is i)
   cut_there i some None e clean now (inr far) =
       let low = cut_below i some in
       stayed i some (c.kept i low (λ there. absurd (both_ways (is_some partial) (ap is_some e) there))) (inr (omega (arith, low, far, sized)))
@@ -185,13 +185,13 @@ module _ (shape : Shape) (page_of_stamp : ℕ → Option PageOfStamp) (n size : 
       by same low (inr (inl whole)) = absurd (let off : ⊥ = omega (arith, whole, low, here) in off)
       by same low (inr (inr none)) = absurd (both_ways (is_none_pointer (pointer_at after is i)) some (ap is_none_pointer (same ∙ ap (pointer_at before was) here) ∙ none))
   cut_there i some (Some q) e given now (inl here) =
-      subst (λ (j : ℕ). IsThere page_of_stamp (held_at n after is j)) (sym here)
-      (subst (λ (p : Pointer). IsThere page_of_stamp (record { size = is.size; tag = record { ino = n; generation = is.generation; index = size / 4096 }; pointer = p })) (sym now) given.1)
+      subst (λ (j : ℕ). PointerIsThere page_of_stamp (held_pointer n after is j)) (sym here)
+      (subst (λ (p : Pointer). PointerIsThere page_of_stamp (record { size = is.size; tag = record { ino = n; generation = is.generation; index = size / 4096 }; pointer = p })) (sym now) given.1)
   cut_there i some (Some q) e given now (inr far) =
       let low = cut_below i some in
       stayed i some (c.kept i low (λ there. far)) (inr (omega (arith, low, far, sized)))
 
-  pub cut_pages : HasPages after page_of_stamp n is
+  pub cut_pages : FileHasPages after page_of_stamp n is
   cut_pages = record {
     below = λ i some. let low = cut_below i some in omega (arith, low, sized);
     there = λ i some. cut_there i some partial refl ends c.replaced (cases_eq i (size / 4096));

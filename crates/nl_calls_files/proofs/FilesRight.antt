@@ -15,12 +15,12 @@ use Rattle.nl_field.specs.declared.shape.Shape.{Shape}
 use Rattle.nl_iface.specs.Holders.{one, tagged, times}
 use Rattle.nl_iface.specs.Names.{Has, LivePage, Names, led}
 use Rattle.nl_meta.specs.Committed.{VirtualMap}
-use Rattle.nl_meta.specs.Consistent.{IsThere, OnePointer, PageOfStamp, PointersRight, RightFor}
+use Rattle.nl_meta.specs.Consistent.{PointerIsThere, OnePointer, PageOfStamp, PointersRight, RightFor}
 use Rattle.nl_meta.specs.Nodes.{Held, body_of, graph_of, held_by, held_in, inode_at, node_from, pointer_at, pointers_at, pointers_of, pointers_of_inode}
 use Rattle.nl_meta.specs.PointerLists.{tagged_in, with_tag}
 use Rattle.nl_meta.proofs.Lists.{flat-member, member-filter, member-flat, member-map, some_in}
 use Rattle.nl_meta.proofs.SlotProofs.{at_index}
-use Rattle.nl_calls_files.specs.FileTrees.{FileIsOf, FileStaysRight, held_at}
+use Rattle.nl_calls_files.specs.FileTrees.{FileIsOf, FileStaysRight, held_pointer}
 
 -- ---- lists
 
@@ -78,7 +78,7 @@ module _ (shape : Shape) (old new : VirtualMap) (page_of_stamp : ℕ → Option 
 
   -- what holds a page now: the file at an index, or it did before
   pub data Holds (h : Held) : Type 0 where
-    of_file : (i : ℕ) → is_none_pointer (pointer_at new is i) ≡ false → held_at n new is i ≡ h → Holds h
+    of_file : (i : ℕ) → is_none_pointer (pointer_at new is i) ≡ false → held_pointer n new is i ≡ h → Holds h
     as_before : members.Has (held_in shape old) h → Holds h
 
   holds : (h : Held) → members.Has (held_in shape new) h → Holds h
@@ -111,7 +111,7 @@ module _ (shape : Shape) (old new : VirtualMap) (page_of_stamp : ℕ → Option 
       let same = is_one (tagged_in shape new) (h.tag, h.pointer) (k.tag, k.pointer) k.pointer.stamp (tagged_has (held_in shape new) h has) (tagged_has (held_in shape new) k also) e refl (c.lead.once k.pointer.stamp) in
       (ap (λ (x : Tag × Pointer). x.0.ino) same, ap (λ (x : Tag × Pointer). x.0.index) same)
 
-  pointers_right : PointersRight (held_in shape new) (IsThere page_of_stamp)
+  pointers_right : PointersRight (held_in shape new) (PointerIsThere page_of_stamp)
   pointers_right = record {
     below = λ h has. below h (holds h has);
     there = λ h has. there h (holds h has);
@@ -123,8 +123,8 @@ module _ (shape : Shape) (old new : VirtualMap) (page_of_stamp : ℕ → Option 
       below h (of_file i some e) = subst (λ (x : Held). x.tag.index < div_ceil x.size 4096) e (c.pages.below i some)
       below h (as_before has) = c.right_before.tree.pointers.below h has
 
-      there : (h : Held) → Holds h → IsThere page_of_stamp h
-      there h (of_file i some e) = subst (IsThere page_of_stamp) e (c.pages.there i some)
+      there : (h : Held) → Holds h → PointerIsThere page_of_stamp h
+      there h (of_file i some e) = subst (PointerIsThere page_of_stamp) e (c.pages.there i some)
       there h (as_before has) = c.right_before.tree.pointers.there h has
 
   pub stays_right : RightFor shape new page_of_stamp

@@ -31,12 +31,12 @@ use Rattle.nl_meta.specs.PointerLists.{IsFile, tagged_in}
 use Rattle.nl_meta.specs.Running.{or_stored, running_over}
 use Rattle.nl_meta.proofs.Lists.{filter-member, flat-member, map-member, range-member}
 use Rattle.nl_meta.proofs.SlotProofs.{at_index, pointers_length}
-use Rattle.nl_meta_running.specs.Running.{IsNeeded, Runs, RunsOn, running_on, stored_on}
+use Rattle.nl_meta_running.specs.Running.{IsNeeded, RunningIsRight, PreservesRunning, running_on, stored_on}
 use Rattle.nl_meta_running.proofs.Holds.{bounds-of}
-use Rattle.nl_files.specs.Standing.{FileStands, IsOwn, KeepsRunning, LoadsOwn, tag_of}
+use Rattle.nl_files.specs.Standing.{FileIsAtHand, IsOwn, KeepsRunning, LoadsOwn, tag_of}
 use Rattle.nl_files.proofs.Keeping.{stands-then}
 use Rattle.nl_files.proofs.LawProofs.{good_addresses_have_pages}
-use Rattle.nl_calls_files.specs.Fits.{FilesLead, FilesOfPool, FilesReadRun, FilesStand, FreeFilePages, IsFileOf}
+use Rattle.nl_calls_files.specs.Fits.{FilesLead, FilesOfPool, FilesReadRun, FilesAreAtHand, FreeFilePages, IsFileOf}
 use Rattle.nl_calls_files.proofs.DirtyRoom.{few_has_room}
 use Rattle.nl_calls_files.proofs.FilesRight.{tagged_has}
 
@@ -102,7 +102,7 @@ module _ (shape : Shape) (pages : VirtualMap) (n : ℕ) (rec : InodeRec) (file :
 
 -- ---- the calls of files
 
-module _ {D : Type 0} (g : Ghosts D) (s : D) (pages : Pages) (n : ℕ) (rec : InodeRec) (runs : Runs g s pages) (is : IsFileOf g s pages n rec) where
+module _ {D : Type 0} (g : Ghosts D) (s : D) (pages : Pages) (n : ℕ) (rec : InodeRec) (runs : RunningIsRight g s pages) (is : IsFileOf g s pages n rec) where
   own_laws : NodeLaws (g.shape s) (running_on g s pages) n rec
   own_laws = laws (g.shape s) (running_on g s pages) n rec runs.addresses is.is_node is.is_file
 
@@ -116,7 +116,7 @@ module _ {D : Type 0} (g : Ghosts D) (s : D) (pages : Pages) (n : ℕ) (rec : In
       by None gone = inl (runs.absent v need gone)
       by (Some bytes) e = inr refl
 
-  pub stands : FileStands g s rec pages
+  pub stands : FileIsAtHand g s rec pages
   stands = record {
     count = runs.count;
     clean = runs.clean;
@@ -125,7 +125,7 @@ module _ {D : Type 0} (g : Ghosts D) (s : D) (pages : Pages) (n : ℕ) (rec : In
     at_hand = λ r far. at_hand (slice_index (slots_of rec) r) (inr (n, r, own_used r far));
   }
 
-pub files_stand : {D : Type 0} (g : Ghosts D) → FilesStand g
+pub files_stand : {D : Type 0} (g : Ghosts D) → FilesAreAtHand g
 files_stand g s pages n rec runs is = stands g s pages n rec runs is
 
 pub files_lead : {D : Type 0} (g : Ghosts D) → FilesLead g
@@ -135,7 +135,7 @@ files_lead g s p pages flight freeing n rec runs h is i low some =
     (subst (λ (xs : List (Tag × Pointer)). Has xs (tag_of n rec i, pointer_at (running_on g s pages) rec i)) (sym h.is_of.runs.running)
     (is_held (g.shape s) (running_on g s pages) n rec (is_file_at (g.shape s) (running_on g s pages) n rec runs.addresses is.is_node is.is_file) i low some)))
 
-module _ {D : Type 0} (g : Ghosts D) (s t : D) (old new : Pages) (n : ℕ) (rec : InodeRec) (runs : Runs g s old) (is : IsFileOf g s old n rec) (reads : OnlyReads g s t) (keeps : KeepsRunning g s old new) (own : LoadsOwn rec old new) where
+module _ {D : Type 0} (g : Ghosts D) (s t : D) (old new : Pages) (n : ℕ) (rec : InodeRec) (runs : RunningIsRight g s old) (is : IsFileOf g s old n rec) (reads : OnlyReads g s t) (keeps : KeepsRunning g s old new) (own : LoadsOwn rec old new) where
   stored_same : g.tells → (v : ℕ) → stored_on g t v ≡ stored_on g s v
   unfolding map_bytes
   stored_same told v =
@@ -176,7 +176,7 @@ module _ {D : Type 0} (g : Ghosts D) (s t : D) (old new : Pages) (n : ℕ) (rec 
       by None e = refl
       by (Some bytes) e = absurd (both_ways (is_some (page_of new v)) (ap is_some gone) (ap is_some (keeps.stays v (ap is_some e) ∙ e)))
 
-  pub reads_run : RunsOn g s old t new
+  pub reads_run : PreservesRunning g s old t new
   reads_run = record {
     reads = reads;
     count = keeps.count;

@@ -20,7 +20,7 @@ use Rattle.nl_namespace.specs.declared.answer.Look.{Look}
 use Rattle.nl_namespace.specs.declared.answer.Look.TheVariants as look
 use Rattle.nl_spec_image.specs.Stands.{bytes_for}
 use Rattle.nl_spec_image.proofs.GraphOfPages.{node_is}
-use Rattle.nl_spec_commits.specs.Trees.{RunsAs}
+use Rattle.nl_spec_commits.specs.Trees.{RepresentsTree}
 use Rattle.nl_calls_files.specs.Refusals.{LooksRefuse, refusal_of_path}
 
 in-file : (tree : Tree) (path : List (List ℕ)) (p : Option Refusal) (o : Option Node) → is_root path ≡ false → prefix_refusal tree path ≡ p → node_at tree path ≡ o
@@ -61,7 +61,7 @@ module _ (tree : Tree) (root : node_at tree [] ≡ Some directory) where
   file-is (name ∷ names) c short p at = of-file tree (name ∷ names) None short (in-file tree (name ∷ names) None (Some (file c)) refl p at)
 
 -- as a look answers
-module _ (law : LooksInTree) (shape : Shape) (pages : VirtualMap) (page_of_stamp : ℕ → Option PageOfStamp) (tree : Tree) (runs : RunsAs shape pages page_of_stamp tree) (path : List (List ℕ)) (short : is_too_long path ≡ false) where
+module _ (law : LooksInTree) (shape : Shape) (pages : VirtualMap) (page_of_stamp : ℕ → Option PageOfStamp) (tree : Tree) (runs : RepresentsTree shape pages page_of_stamp tree) (path : List (List ℕ)) (short : is_too_long path ≡ false) where
   in-tree : (answer : Look) → Looks (graph_of shape pages) path answer → IsInTree (bytes_for page_of_stamp) (graph_of shape pages) tree path answer
   in-tree answer looks = law (bytes_for page_of_stamp) (graph_of shape pages) tree path answer runs.represents.depicts runs.represents.is_tree.root looks
 

@@ -34,14 +34,14 @@ use Rattle.nl_files.proofs.OneFile.{is-used}
 use Rattle.nl_journal_commit.specs.Holding.{running_holders}
 use Rattle.nl_journal_commit.specs.Standing.{IsJournaled}
 use Rattle.nl_spec_commits.specs.Changes.{GainsEach, LosesEach}
-use Rattle.nl_spec_commits.specs.FileCuts.{CutsFile, pointers_behind}
+use Rattle.nl_spec_commits.specs.FileCuts.{CutsFilePointers, pointers_behind}
 use Rattle.nl_spec_commits.specs.Held.{IsHeldVolume}
 use Rattle.nl_spec_commits.proofs.FileCutting as cutting
 use Rattle.nl_spec_commits.proofs.FileCutting.{parting_keeps_held, truncating_keeps_held}
 use Rattle.nl_spec_commits.proofs.FileLists.{all_of, there}
 use Rattle.nl_spec_commits.proofs.Replacing.{installing_keeps_held, shown_plain, shown_some}
 use Rattle.nl_calls_files.proofs.Fits.{is_file_at}
-use Rattle.nl_calls_files.specs.Holders.{CuttingHolds, HoldsOn, InstallingHolds, LosesGiven, cut_off}
+use Rattle.nl_calls_files.specs.Holders.{CuttingHolds, KeepsVolumeHeld, InstallingHolds, LosesGiven, cut_off}
 
 -- ---- lists
 
@@ -125,7 +125,7 @@ module _ {D : Type 0} (g : Ghosts D) (s : D) (p : Progress) (flight later : List
   file_after : IsFile shape after n is
   file_after = is_file_at shape after n is cut.right.addresses node_after cut.changes.file_after
 
-  cuts_at : (index : ℕ) → ((i : ℕ) → i < index → pointer_at after is i ≡ pointer_at before was i) → ((i : ℕ) → index < i → pointer_at after is i ≡ no_pointer) → CutsFile shape before after n index was is
+  cuts_at : (index : ℕ) → ((i : ℕ) → i < index → pointer_at after is i ≡ pointer_at before was i) → ((i : ℕ) → index < i → pointer_at after is i ≡ no_pointer) → CutsFilePointers shape before after n index was is
   cuts_at index kept gone = record {
     file_before = file_before;
     file_after = file_after;
@@ -146,11 +146,11 @@ module _ {D : Type 0} (g : Ghosts D) (s : D) (p : Progress) (flight later : List
   abbrev tail : ℕ → List (Tag × Pointer)
   tail from = there n was.generation from (drop from (all_of before was))
 
-  tail_size : (index : ℕ) → CutsFile shape before after n index was is → (from : ℕ) → length (tail from) ≡ length (pointers_from before was from)
+  tail_size : (index : ℕ) → CutsFilePointers shape before after n index was is → (from : ℕ) → length (tail from) ≡ length (pointers_from before was from)
   tail_size index c from = sym (length-map (tail from) tagged) ∙ ap length (cutting.plain_behind shape before after n index was is c from ∙ behind_same from)
 
   -- no page comes
-  none_comes : partial ≡ None → later ≡ flight → HoldsOn g s p old written flight later freeing (pointers_from before was (div_ceil size 4096) ++ [])
+  none_comes : partial ≡ None → later ≡ flight → KeepsVolumeHeld g s p old written flight later freeing (pointers_from before was (div_ceil size 4096) ++ [])
   none_comes e same =
       let index = div_ceil size 4096 in
       let c = cuts_at index (kept_below e) (λ i far. cut.gone i (omega (arith, far))) in
@@ -164,7 +164,7 @@ module _ {D : Type 0} (g : Ghosts D) (s : D) (p : Progress) (flight later : List
       let size_ = tail_size index c index in
       let added = length-append freeing gone in
       let as_many_flight = ap length same in
-      subst (λ (f : List Pointer). HoldsOn g s p old written flight later freeing f) (sym (append-nil gone)) (record {
+      subst (λ (f : List Pointer). KeepsVolumeHeld g s p old written flight later freeing f) (sym (append-nil gone)) (record {
         held = subst (λ (f : List (Tag × Pointer)). IsHeldVolume g s p written f (freeing ++ gone)) (sym same)
             (subst (λ (f : List Pointer). IsHeldVolume g s p written flight (freeing ++ f)) (behind_same index)
             (truncating_keeps_held g s s p old written flight freeing n index was is volume j h (reads-none g s) frozen c none));
@@ -173,7 +173,7 @@ module _ {D : Type 0} (g : Ghosts D) (s : D) (p : Progress) (flight later : List
 
   -- one comes
   one_comes : (q : Pointer) → partial ≡ Some q → size % 4096 ≢ 0 → is_none_pointer q ≡ false → pointer_at after is (size / 4096) ≡ q → ListLoses tagged (tag_of n was (size / 4096), q) flight later
-      → HoldsOn g s p old written flight later freeing (pointers_from before was (div_ceil size 4096) ++ as_list (pointer_at before was (size / 4096)))
+      → KeepsVolumeHeld g s p old written flight later freeing (pointers_from before was (div_ceil size 4096) ++ as_list (pointer_at before was (size / 4096)))
   one_comes q e within some now lost =
       let index = size / 4096 in
       let is_next : div_ceil size 4096 ≡ index + 1 = omega (arith, within) in
@@ -191,18 +191,18 @@ module _ {D : Type 0} (g : Ghosts D) (s : D) (p : Progress) (flight later : List
       let added = length-append freeing (pointers_from before was (index + 1) ++ as_list was_at) in
       let gone_size = length-append (pointers_from before was (index + 1)) (as_list was_at) in
       let fewer = lost.size in
-      subst (λ (from : ℕ). HoldsOn g s p old written flight later freeing (pointers_from before was from ++ as_list was_at)) (sym is_next) (record {
+      subst (λ (from : ℕ). KeepsVolumeHeld g s p old written flight later freeing (pointers_from before was from ++ as_list was_at)) (sym is_next) (record {
         held = subst (λ (f : List Pointer). IsHeldVolume g s p written later f) (append_assoc freeing (pointers_behind before was (index + 1)) (as_list was_at) ∙ ap (λ (l : List Pointer). freeing ++ (l ++ as_list was_at)) (behind_same (index + 1)))
             (parting_keeps_held g s s p old written flight later freeing n index was is volume j h (reads-none g s) frozen c is_some_now
             (subst (λ (x : Pointer). ListLoses tagged (tag_of n was index, x) flight later) (sym now) lost));
         as_many = omega (arith, losing, gaining, parts, one, at_size, rest_size, added, gone_size, fewer);
       })
 
-  pub cut_holds : IfSome partial (λ to. (size % 4096 ≢ 0) × (is_none_pointer to ≡ false)) → LosesGiven (tag_of n was (size / 4096)) partial flight later → HoldsOn g s p old written flight later freeing (cut_off before was size partial)
+  pub cut_holds : IfSome partial (λ to. (size % 4096 ≢ 0) × (is_none_pointer to ≡ false)) → LosesGiven (tag_of n was (size / 4096)) partial flight later → KeepsVolumeHeld g s p old written flight later freeing (cut_off before was size partial)
   cut_holds right lost = by partial refl right cut.replaced lost
     where
       by : (o : Option Pointer) → partial ≡ o → IfSome o (λ to. (size % 4096 ≢ 0) × (is_none_pointer to ≡ false)) → IfSome o (λ to. pointer_at after is (size / 4096) ≡ to) → LosesGiven (tag_of n was (size / 4096)) o flight later
-          → HoldsOn g s p old written flight later freeing (cut_off before was size o)
+          → KeepsVolumeHeld g s p old written flight later freeing (cut_off before was size o)
       by None e right now lost = none_comes e lost
       by (Some q) e right now lost = one_comes q e right.0 right.1 now lost
 

@@ -10,14 +10,14 @@ use Rattle.nl_field.specs.declared.inode.InodeRec.{InodeRec}
 use Rattle.nl_field.specs.declared.pointer.Pointer.{Pointer}
 use Rattle.nl_inode.specs.Nodes.{Spaces, page_of_node}
 use Rattle.nl_indirect.specs.Ranges.{address_of, range_of}
-use Rattle.nl_indirect.specs.Storing.{Begins}
+use Rattle.nl_indirect.specs.Storing.{BeginsRange}
 use Rattle.nl_indirect.proofs.Fresh.{with-is-dirty}
 use Rattle.nl_indirect.proofs.Pointing.{address-node, address-range}
 use Rattle.nl_meta.specs.Nodes.{slots_of}
 use Rattle.nl_meta.specs.Pages.{Pages, above, below, besides_0, is_dirty, most, with_address}
 use Rattle.nl_meta.proofs.Lists.{range-member}
 use Rattle.nl_meta.proofs.Rising.{some_equal, split}
-use Rattle.nl_files.specs.Installing.{HasFree, Takes}
+use Rattle.nl_files.specs.Installing.{HasFree, TakesLeastAddress}
 use Rattle.nl_calls_files.specs.LineNeeds.{free_addresses, gets_page, new_ranges}
 use Rattle.nl_calls_files.proofs.Counts.{at_least_one, no_more, one_less, one_unmarked, some_mark}
 use Rattle.nl_calls_files.specs.Taking.{HasRoomToTake, TakesPage, clean_at, clean_of}
@@ -161,7 +161,7 @@ room_to_take p rec n first i few (with_last up high e) = let same = same_clean p
 abbrev lies_within : ℕ → ℕ → Bool
 lies_within range i = nat_le 8 i && (range_of i == range)
 
-pub begins_gets : (rec : InodeRec) (index : ℕ) (to : Pointer) (rest : List ℕ) → Begins rec index (Some to) → gets_page rec (index ∷ rest) (range_of index) ≡ true
+pub begins_gets : (rec : InodeRec) (index : ℕ) (to : Pointer) (rest : List ℕ) → BeginsRange rec index (Some to) → gets_page rec (index ∷ rest) (range_of index) ≡ true
 begins_gets rec index to rest b =
     let here : lies_within (range_of index) index ≡ true = and_from (nat_le 8 index) (range_of index == range_of index) (le-leb 8 index b.in_range) (eq-eqb (range_of index) (range_of index) refl) in
     and_from (slice_index (slots_of rec) (range_of index) == 0) (list_any (lies_within (range_of index)) (index ∷ rest))
@@ -169,7 +169,7 @@ begins_gets rec index to rest b =
     (ap (λ c. c || list_any (lies_within (range_of index)) rest) here)
 
 -- a new range finds a free address
-pub has_free : (rec : InodeRec) (index : ℕ) (to : Pointer) (rest : List ℕ) (s : Spaces) → index < 4104 → new_ranges rec (index ∷ rest) ≤ free_addresses s → Begins rec index (Some to) → HasFree s
+pub has_free : (rec : InodeRec) (index : ℕ) (to : Pointer) (rest : List ℕ) (s : Spaces) → index < 4104 → new_ranges rec (index ∷ rest) ≤ free_addresses s → BeginsRange rec index (Some to) → HasFree s
 has_free rec index to rest s within enough b =
     let one = at_least_one (gets_page rec (index ∷ rest)) (range_with_len 0 16) (range_of index) (range-member (range_of index) 0 16 (omega arith) (omega (arith, within))) (begins_gets rec index to rest b) in
     let k = some_mark s.pool (omega (arith, one, enough)) in
@@ -200,8 +200,8 @@ module _ (n index : ℕ) (to : Pointer) (size : ℕ) (was is : InodeRec) (old ne
   node_dirty : is_dirty new (page_of_node n) ≡ true
   node_dirty = ap (λ (xs : List ℕ). list_any (λ a. a == page_of_node n) xs) put_dirty ∙ with-is-dirty (page_of_node n) mid.dirty
 
-  fresh_is : (a : ℕ) → taken.installs.fresh ≡ Some a → Takes (Some a) s t
-  fresh_is a e = subst (λ (o : Option ℕ). Takes o s t) e taken.installs.taken
+  fresh_is : (a : ℕ) → taken.installs.fresh ≡ Some a → TakesLeastAddress (Some a) s t
+  fresh_is a e = subst (λ (o : Option ℕ). TakesLeastAddress o s t) e taken.installs.taken
 
   fresh_far : (a : ℕ) → taken.installs.fresh ≡ Some a → a ≢ 0
   fresh_far a e z = let low = leb-true s.first a (and_parts (nat_le s.first a) _ (fresh_is a e).0.free_itself).0 in omega (arith, low, pool, z)
@@ -341,7 +341,7 @@ module _ (n index : ℕ) (to : Pointer) (size : ℕ) (was is : InodeRec) (old ne
             absurd ((written up).far (sym (same_as_put index) ∙ address-range is index up ∙ ap (λ (k : ℕ). slice_index (slots_of is) k) (sym here) ∙ zero_))
 
     -- where the range gets its first page
-    module _ (begins : Begins was index (Some to)) (within : index < 4104) where
+    module _ (begins : BeginsRange was index (Some to)) (within : index < 4104) where
       in_ranges : Has (range_with_len 0 16) (range_of index)
       in_ranges = range-member (range_of index) 0 16 (omega arith) (omega (arith, within))
 
@@ -358,7 +358,7 @@ module _ (n index : ℕ) (to : Pointer) (size : ℕ) (was is : InodeRec) (old ne
       where
         by : (o : Option ℕ) → taken.installs.fresh ≡ o → new_ranges is rest ≤ free_addresses t
         by None e =
-            let same : t ≡ s = subst (λ (o : Option ℕ). Takes o s t) e taken.installs.taken in
+            let same : t ≡ s = subst (λ (o : Option ℕ). TakesLeastAddress o s t) e taken.installs.taken in
             let free = ap free_addresses same in
             let fewer = gets_fewer in
             omega (arith, free, fewer, enough)

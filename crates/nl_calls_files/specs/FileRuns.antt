@@ -12,7 +12,7 @@ use Rattle.nl_iface.specs.Names.{Names}
 use Rattle.nl_iface.specs.declared.counts.Counts.{Ghosts}
 use Rattle.nl_inode.specs.Nodes.{Spaces}
 use Rattle.nl_meta.specs.Committed.{VirtualMap}
-use Rattle.nl_meta.specs.Consistent.{IsThere, PageOfStamp, RightFor}
+use Rattle.nl_meta.specs.Consistent.{PointerIsThere, PageOfStamp, RightFor}
 use Rattle.nl_meta.specs.Nodes.{graph_of, pointer_at}
 use Rattle.nl_meta.specs.Pages.{Pages}
 use Rattle.nl_meta.specs.PointerLists.{IsFile, tagged_in}
@@ -23,8 +23,8 @@ use Rattle.nl_files.specs.InstallLaws.{FileIsInstalled}
 use Rattle.nl_files.specs.Standing.{tag_of}
 use Rattle.nl_journal_commit.specs.Holding.{running_holders}
 use Rattle.nl_spec_commits.specs.Held.{IsHeldVolume}
-use Rattle.nl_spec_commits.specs.Trees.{RunsAs}
-use Rattle.nl_calls_files.specs.FileTrees.{HasPages, LeadOnce, held_content}
+use Rattle.nl_spec_commits.specs.Trees.{RepresentsTree}
+use Rattle.nl_calls_files.specs.FileTrees.{FileHasPages, LeadOnce, held_content}
 
 -- Of two maps of pages, a node is a file in both, under this path, and every other node has what it had. The second is right, the file has
 -- its pages there, the pointers of all files lead once, and they are no more than the volume may have.
@@ -34,7 +34,7 @@ pub record FileBecomes (shape : Shape) (old new : VirtualMap) (page_of_stamp : �
   pub file_after : IsFile shape new n is
   pub others : (k : ℕ) → k ≢ n → graph_of shape new k ≡ graph_of shape old k
   pub lead : LeadOnce names (tagged_in shape new)
-  pub pages : HasPages new page_of_stamp n is
+  pub pages : FileHasPages new page_of_stamp n is
   pub few : length (tagged_in shape new) ≤ shape.cap
   pub leads : node_reached (graph_of shape old) 0 path ≡ Some n
 
@@ -43,12 +43,12 @@ abbrev pub FileRunsOn : Type 0
 FileRunsOn =
     (shape : Shape) (old new : VirtualMap) (page_of_stamp : ℕ → Option PageOfStamp) (names : Names) (n : ℕ) (was is : InodeRec)
     (path : List (List ℕ)) (tree : Tree)
-    → RunsAs shape old page_of_stamp tree → FileBecomes shape old new page_of_stamp names n was is path
-    → RunsAs shape new page_of_stamp (with_content tree path (held_content page_of_stamp new is))
+    → RepresentsTree shape old page_of_stamp tree → FileBecomes shape old new page_of_stamp names n was is path
+    → RepresentsTree shape new page_of_stamp (with_content tree path (held_content page_of_stamp new is))
 
 -- the page of a pointer at an index of a file of this size
 abbrev pub IsPageAt : (ℕ → Option PageOfStamp) → ℕ → InodeRec → ℕ → Pointer → Type 0
-IsPageAt page_of_stamp n rec index to = IsThere page_of_stamp (record { size = rec.size; tag = tag_of n rec index; pointer = to })
+IsPageAt page_of_stamp n rec index to = PointerIsThere page_of_stamp (record { size = rec.size; tag = tag_of n rec index; pointer = to })
 
 -- A file that took a pointer and did not become shorter has its pages, where the new one is below the pages of its size and is there.
 abbrev pub InstalledHasPages : Type 0
@@ -57,7 +57,7 @@ InstalledHasPages =
     (s t : Spaces)
     → RightFor shape before page_of_stamp → IsFile shape before n was → FileIsInstalled shape n index to was is before after s t
     → was.size ≤ is.size
-    → index < div_ceil is.size 4096 → IsPageAt page_of_stamp n is index to → HasPages after page_of_stamp n is
+    → index < div_ceil is.size 4096 → IsPageAt page_of_stamp n is index to → FileHasPages after page_of_stamp n is
 
 -- The page in which a file of this size ends holds nothing behind it: the file was not longer, it ends with a page, or it has none there.
 abbrev pub EndsClean : VirtualMap → InodeRec → ℕ → Type 0
@@ -75,7 +75,7 @@ CutHasPages =
     (before after : VirtualMap) (s t : Spaces)
     → RightFor shape before page_of_stamp → IsFile shape before n was → CutIsWritten shape n size partial was is before after s t
     → is.size ≡ size
-    → EndsWith page_of_stamp n size before was is partial → HasPages after page_of_stamp n is
+    → EndsWith page_of_stamp n size before was is partial → FileHasPages after page_of_stamp n is
 
 -- Where each live page is held once, the pointers of all files lead once.
 abbrev pub HeldLeadOnce : {D : Type 0} → Ghosts D → Type 0

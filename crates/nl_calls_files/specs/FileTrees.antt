@@ -12,7 +12,7 @@ use Rattle.nl_tree.specs.Tree.{Tree, with_content}
 use Rattle.nl_meta.specs.Committed.{VirtualMap}
 use Rattle.nl_iface.specs.Holders.{IsRef, always, tagged, times, wants_tagged}
 use Rattle.nl_iface.specs.Names.{Has, Names}
-use Rattle.nl_meta.specs.Consistent.{AddressesRight, EntriesRight, IsThere, NodesRight, PageOfStamp, RightFor}
+use Rattle.nl_meta.specs.Consistent.{AddressesRight, EntriesRight, PointerIsThere, NodesRight, PageOfStamp, RightFor}
 use Rattle.nl_meta.specs.Nodes.{Held, graph_of, pointer_at, pointers_of_inode}
 use Rattle.nl_meta.specs.PointerLists.{IsFile, tagged_in}
 use Rattle.nl_spec_image.specs.RightFor.{PagesRepresent}
@@ -49,14 +49,14 @@ pub record LeadOnce (names : Names) (pointers : List (Tag × Pointer)) : Type 0 
   pub once : (stamp : ℕ) → times tagged stamp pointers ≤ 1
 
 -- the pointer of a file at an index, as one that holds a page
-abbrev pub held_at : ℕ → VirtualMap → InodeRec → ℕ → Held
-held_at n pages rec i =
+abbrev pub held_pointer : ℕ → VirtualMap → InodeRec → ℕ → Held
+held_pointer n pages rec i =
     record { size = rec.size; tag = record { ino = n; generation = rec.generation; index = i }; pointer = pointer_at pages rec i }
 
 -- Each pointer of the file is below the pages of its size, and has its page.
-pub record HasPages (pages : VirtualMap) (page_of_stamp : ℕ → Option PageOfStamp) (n : ℕ) (rec : InodeRec) : Type 0 where
+pub record FileHasPages (pages : VirtualMap) (page_of_stamp : ℕ → Option PageOfStamp) (n : ℕ) (rec : InodeRec) : Type 0 where
   pub below : (i : ℕ) → is_none_pointer (pointer_at pages rec i) ≡ false → i < div_ceil rec.size 4096
-  pub there : (i : ℕ) → is_none_pointer (pointer_at pages rec i) ≡ false → IsThere page_of_stamp (held_at n pages rec i)
+  pub there : (i : ℕ) → is_none_pointer (pointer_at pages rec i) ≡ false → PointerIsThere page_of_stamp (held_pointer n pages rec i)
 
 -- Of two maps of pages the first is right, and in the second nodes, addresses and entries are. There a node is a file that has its pages,
 -- every other node has what it had, and the pointers of all files lead once.
@@ -68,7 +68,7 @@ pub record FileIsOf (shape : Shape) (old new : VirtualMap) (page_of_stamp : ℕ 
   pub file : IsFile shape new n is
   pub others : (k : ℕ) → k ≢ n → graph_of shape new k ≡ graph_of shape old k
   pub lead : LeadOnce names (tagged_in shape new)
-  pub pages : HasPages new page_of_stamp n is
+  pub pages : FileHasPages new page_of_stamp n is
 
 -- Of two such maps the second is right too.
 abbrev pub FileStaysRight : Type 0

@@ -2,7 +2,7 @@
 use Rattle.std.specs.Prelude.{◌≡◌, ℕ, ◌+◌, ◌<◌, max, List, length, map, slice_get, Option, Some, IsTrue}
 use Rattle.nl_field.specs.FileContent.{FileContent, is_content, overlaid, page_bytes, touched, written_over}
 use Rattle.nl_flight.specs.declared.page.FlightPage.{FlightPage}
-use Rattle.nl_meta.specs.Consistent.{IsThere, PageOfStamp}
+use Rattle.nl_meta.specs.Consistent.{PointerIsThere, PageOfStamp}
 use Rattle.nl_spec_image.specs.Stands.{bytes_for}
 use Rattle.nl_calls_files.specs.LineNeeds.{with_pages}
 
@@ -18,7 +18,7 @@ shown_pages page_of_stamp pages = map (λ page. (page.index, bytes_for page_of_s
 abbrev pub AreThere : (ℕ → Option PageOfStamp) → ℕ → List FlightPage → Type 0
 AreThere page_of_stamp size pages =
     (k : ℕ) (page : FlightPage) → slice_get pages k ≡ Some page
-    → IsThere page_of_stamp (record { size = size; tag = page.tag; pointer = page.at })
+    → PointerIsThere page_of_stamp (record { size = size; tag = page.tag; pointer = page.at })
 
 -- Each page of a write holds what a file of this content has there, with these bytes laid over it from an offset on.
 abbrev pub AreOfWrite : (ℕ → Option PageOfStamp) → FileContent → ℕ → List ℕ → List FlightPage → Type 0

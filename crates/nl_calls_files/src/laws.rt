@@ -1,7 +1,7 @@
 //! Laws of the definitions. Each function stands for the laws that its contract names.
 ghost use Rattle.nl_calls_files.specs.FileRuns.{CutHasPages, FileRunsOn, HeldLeadOnce, InstalledHasPages};
 ghost use Rattle.nl_calls_files.specs.FileTrees.{FileChangesTree, FileStaysRight};
-ghost use Rattle.nl_calls_files.specs.Fits.{FilesLead, FilesOfPool, FilesReadRun, FilesStand, FreeFilePages};
+ghost use Rattle.nl_calls_files.specs.Fits.{FilesLead, FilesOfPool, FilesReadRun, FilesAreAtHand, FreeFilePages};
 ghost use Rattle.nl_calls_files.specs.Holders.{CuttingHolds, InstallingHolds};
 ghost use Rattle.nl_calls_files.specs.Landing.{PagesLand};
 ghost use Rattle.nl_calls_files.specs.LinePages.{LinesWriteOver};
@@ -35,7 +35,7 @@ pub fn files_hold<D: NamedPages>()
 /// A file of a volume that runs can be read, prepared, written and cut: its pages of pointers are at hand, its pointers lead, a call that
 /// reads it leaves the volume as it was, and free addresses may become new pages of it.
 pub fn files_fit<D: NamedPages>()
-    ensures stand { FilesStand D.Counts }
+    ensures stand { FilesAreAtHand D.Counts }
     ensures lead { FilesLead D.Counts }
     ensures run { FilesReadRun D.Counts }
     ensures pool { FilesOfPool D.Counts }

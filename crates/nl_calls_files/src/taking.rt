@@ -2,12 +2,12 @@ ghost use Rattle.std.specs.Prelude.{◌≡◌, ◌<◌, ◌≤◌, ◌+◌, ◌^
 ghost use Rattle.nl_field.specs.Spelling.{is_stamp};
 ghost use Rattle.nl_inode.specs.Nodes.{page_of_node};
 ghost use Rattle.nl_indirect.specs.Ranges.{HasRange, IsFileRecord};
-ghost use Rattle.nl_indirect.specs.Storing.{Begins};
+ghost use Rattle.nl_indirect.specs.Storing.{BeginsRange};
 ghost use Rattle.nl_meta.specs.Committed.{VirtualMap};
 ghost use Rattle.nl_meta.specs.Nodes.{pointer_at};
 ghost use Rattle.nl_meta.specs.Pages.{page_of};
 ghost use Rattle.nl_meta.specs.Running.{running_over};
-ghost use Rattle.nl_files.specs.Installing.{FreeAreNew, HasFree};
+ghost use Rattle.nl_files.specs.Installing.{FreeAreNewToFile, HasFree};
 ghost use Rattle.nl_files.specs.Spans.{as_list};
 ghost use Rattle.nl_calls_files.specs.Taking.{HasRoomToTake, TakesPage};
 
@@ -35,8 +35,8 @@ pub fn take_page(
     requires range { HasRange (page_of meta.old) rec.old index }
     requires to { IsTrue (is_stamp to.stamp) }
     requires room { HasRoomToTake meta.old rec.old ino index }
-    requires free { FreeAreNew nodes.old meta.old rec.old }
-    requires fresh { Begins rec.old index (Some to) → HasFree nodes.old }
+    requires free { FreeAreNewToFile nodes.old meta.old rec.old }
+    requires fresh { BeginsRange rec.old index (Some to) → HasFree nodes.old }
     requires place { 0 < freeing.old.room }
     requires few { length freeing.old.items + 1 < 2 ^ 32 }
     ensures taken { TakesPage ino index to size rec.old rec.new meta.old meta.new nodes.old nodes.new }

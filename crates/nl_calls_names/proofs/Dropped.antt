@@ -21,12 +21,12 @@ use Rattle.nl_meta.specs.Nodes.{bytes_of_node, inode_at, slot_at}
 use Rattle.nl_meta.specs.Pages.{Pages, page_of}
 use Rattle.nl_meta.specs.Running.{CleanIsStored, or_stored, running_over}
 use Rattle.nl_meta.specs.SlotLaws.{with_slot}
-use Rattle.nl_meta.specs.Steps.{ChangesPages}
+use Rattle.nl_meta.specs.Steps.{ChangesRunningPages}
 use Rattle.nl_meta.proofs.RunningProofs.{running_map}
-use Rattle.nl_meta_running.specs.Running.{IsNeeded, Runs, running_on, stored_on}
+use Rattle.nl_meta_running.specs.Running.{IsNeeded, RunningIsRight, running_on, stored_on}
 use Rattle.nl_meta_running.proofs.Holds.{bounds-of}
 use Rattle.nl_meta_running.proofs.Kept.{resident-is}
-use Rattle.nl_namespace.specs.Changing.{FreeFits, RunsBut}
+use Rattle.nl_namespace.specs.Changing.{FreeFits, RunningIsRightBut}
 use Rattle.nl_calls_names.specs.Dropping.{DropsNode, HasOfPool, unused_as}
 use Rattle.nl_calls_names.proofs.Unused.{address, addresses_right, nodes_right, of_pool, pool_is_free}
 
@@ -42,7 +42,7 @@ copies (suc n) x y (inr h) = copies n x y h
 none_physical : (shape : Shape) → NamesPhysical shape (replicate 8 no_pointer)
 none_physical shape p h = or_true (is_none_pointer p) _ (ap is_none_pointer (sym (copies 8 no_pointer p h)))
 
-module _ {D : Type 0} (g : Ghosts D) (s : D) (pages : Pages) (free : Spaces) (volume : IsVolumeShape (g.shape s)) (n : ℕ) (runs : RunsBut g s pages (Some n)) (fits : FreeFits g s pages free) (below : n < (g.shape s).nodes)
+module _ {D : Type 0} (g : Ghosts D) (s : D) (pages : Pages) (free : Spaces) (volume : IsVolumeShape (g.shape s)) (n : ℕ) (runs : RunningIsRightBut g s pages (Some n)) (fits : FreeFits g s pages free) (below : n < (g.shape s).nodes)
     (there : IsSome (page_of pages (page_of_node n))) where
   abbrev shape : Shape
   shape = g.shape s
@@ -74,7 +74,7 @@ module _ {D : Type 0} (g : Ghosts D) (s : D) (pages : Pages) (free : Spaces) (vo
     abbrev later : VirtualMap
     later = running_on g s now
 
-    pub changes : ChangesPages pages now
+    pub changes : ChangesRunningPages pages now
     changes = put_changes pages now n is d.puts
 
     there_now : IsSome (page_of now (page_of_node n))
@@ -121,7 +121,7 @@ module _ {D : Type 0} (g : Ghosts D) (s : D) (pages : Pages) (free : Spaces) (vo
         ((running_map (stored_on g s) pages (runs.clean told)).changed (page_of_node n) (with_slot 256 (n % 16) (inode_bytes is) (unwrap_or (page_of pages (page_of_node n)) []))
         (there-below pages.running (page_of_node n) there)).clean
 
-    pub runs_now : Runs g s now
+    pub runs_now : RunningIsRight g s now
     runs_now = record {
       count = count ∙ runs.count;
       nodes = nodes_right shape bounds before later n is runs.addresses below refl node_now runs.nodes not_root (none_physical shape);

@@ -20,9 +20,9 @@ use Rattle.nl_meta.specs.Consistent.{AddressesRight, IsNode}
 use Rattle.nl_meta.specs.Nodes.{Held, graph_of, held_by, held_in}
 use Rattle.nl_meta.specs.Pages.{Pages, page_of}
 use Rattle.nl_meta.specs.PointerLists.{tagged_by, tagged_in, with_tag}
-use Rattle.nl_meta.specs.Steps.{ChangesPages}
+use Rattle.nl_meta.specs.Steps.{ChangesRunningPages}
 use Rattle.nl_meta.proofs.PageProofs.{both}
-use Rattle.nl_meta_running.specs.Running.{IsUsed, Runs, running_on}
+use Rattle.nl_meta_running.specs.Running.{IsUsedNode, RunningIsRight, running_on}
 use Rattle.nl_meta_running.proofs.Holds.{bounds-of}
 use Rattle.nl_spec_image.proofs.GraphOfPages.{named_once}
 use Rattle.nl_tree.specs.declared.call.Call.{Call}
@@ -45,8 +45,8 @@ use Rattle.nl_calls_names.proofs.Unused.{node_is, other_nodes}
 -- The volume runs on. Its nodes are those that the call leaves, and of the pointers of files those are gone that the node had.
 pub record Ended {D : Type 0} (g : Ghosts D) (s : D) (pages : Pages) (free : Spaces) (t : D) (now : Pages) (after : Spaces) (call : Call) (gone : Option ℕ) : Type 0 where
   pub reads : OnlyReads g s t
-  pub kept : ChangesPages pages now
-  pub runs : Runs g t now
+  pub kept : ChangesRunningPages pages now
+  pub runs : RunningIsRight g t now
   pub fits : FreeFits g t now after
   pub names : ChangesNames free (graph_of (g.shape s) (running_on g s pages)) (graph_of (g.shape t) (running_on g t now)) call (change.Changed gone)
   pub given : List (Tag × Pointer)
@@ -104,8 +104,8 @@ module _ {D : Type 0} (g : Ghosts D) (s : D) (pages : Pages) (free : Spaces) (t 
   }
 
 -- one did, and is dropped
-module _ {D : Type 0} (g : Ghosts D) (s : D) (pages : Pages) (free : Spaces) (volume : IsVolumeShape (g.shape s)) (runs : Runs g s pages) (t : D) (mid : Pages) (between : Spaces) (call : Call) (n : ℕ) (c : Changes g s pages t mid between (Some n))
-    (names : ChangesNames free (graph_of (g.shape s) (running_on g s pages)) (graph_of (g.shape t) (running_on g t mid)) call (change.Changed (Some n))) (used : IsUsed g s pages n) (there : IsSome (page_of pages (page_of_node n)))
+module _ {D : Type 0} (g : Ghosts D) (s : D) (pages : Pages) (free : Spaces) (volume : IsVolumeShape (g.shape s)) (runs : RunningIsRight g s pages) (t : D) (mid : Pages) (between : Spaces) (call : Call) (n : ℕ) (c : Changes g s pages t mid between (Some n))
+    (names : ChangesNames free (graph_of (g.shape s) (running_on g s pages)) (graph_of (g.shape t) (running_on g t mid)) call (change.Changed (Some n))) (used : IsUsedNode g s pages n) (there : IsSome (page_of pages (page_of_node n)))
   where
     abbrev sh : Shape
     sh = g.shape s

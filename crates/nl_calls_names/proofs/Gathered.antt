@@ -18,8 +18,8 @@ use Rattle.nl_iface.specs.declared.counts.Counts.{Ghosts}
 use Rattle.nl_meta.specs.Nodes.{body_of, graph_of, pointers_in}
 use Rattle.nl_meta.specs.Pages.{Pages}
 use Rattle.nl_meta.specs.PointerLists.{tagged_by}
-use Rattle.nl_meta_running.specs.Reading.{Reads}
-use Rattle.nl_meta_running.specs.Running.{IsNodeOf, IsUsed, Runs}
+use Rattle.nl_meta_running.specs.Reading.{ReadsExplainStop}
+use Rattle.nl_meta_running.specs.Running.{IsNodeOf, IsUsedNode, RunningIsRight}
 use Rattle.nl_meta_running.specs.declared.answer.Stop.{Stop}
 use Rattle.nl_meta_running.specs.declared.answer.Stop.TheVariants as stop
 use Rattle.nl_meta_running.proofs.GraphStays.{graph-same}
@@ -75,10 +75,10 @@ module _ {D : Type 0} (g : Ghosts D) (v w : Core D) (volume : IsVolumeShape (g.s
     room = let same = ap (λ (f : PointerItems). length f.items + f.room) same_freeing in let more = h.room in omega (arith, same, more);
   }
 
-  pub then_opens : (u : Core D) (n : ℕ) → IsUsed g v.device v.meta n → OpensNode g w u n → OpensNode g v u n
+  pub then_opens : (u : Core D) (n : ℕ) → IsUsedNode g v.device v.meta n → OpensNode g w u n → OpensNode g v u n
   then_opens u n used h = record { used = used; there = h.there }
 
-  pub then_used : (n : ℕ) → IsUsed g v.device v.meta n → IsUsed g w.device w.meta n
+  pub then_used : (n : ℕ) → IsUsedNode g v.device v.meta n → IsUsedNode g w.device w.meta n
   then_used n used = (used.0, used-on g v.device v.meta w.device w.meta (bounds-of (g.shape v.device) volume) r.runs n used.0 used.1)
 
   pub gathers_none : GathersOn g v w []
@@ -89,7 +89,7 @@ module _ {D : Type 0} (g : Ghosts D) (v w : Core D) (volume : IsVolumeShape (g.s
   }
 
 -- no read failed, and then a call ended so
-pub then_reads : {D : Type 0} (g : Ghosts D) (s t u : D) (same_stamps : (v : ℕ) → g.stamps t v ≡ g.stamps s v) (o : Option Stop) → g.read_faults t ≡ g.read_faults s → Reads g t u o → Reads g s u o
+pub then_reads : {D : Type 0} (g : Ghosts D) (s t u : D) (same_stamps : (v : ℕ) → g.stamps t v ≡ g.stamps s v) (o : Option Stop) → g.read_faults t ≡ g.read_faults s → ReadsExplainStop g t u o → ReadsExplainStop g s u o
 then_reads g s t u same_stamps None same r = r ∙ same
 then_reads g s t u same_stamps (Some stop.Fault) same r = subst (λ (n : ℕ). FailuresCounted ⊤ n (g.read_faults u) ⊤) same r
 then_reads g s t u same_stamps (Some (stop.Lost w f)) same r = (r.0 ∙ same, (r.1.0, sym (same_stamps r.1.0) ∙ r.1.1), r.2, r.3)
@@ -105,7 +105,7 @@ module _ {D : Type 0} (g : Ghosts D) (v : Core D) (n : ℕ) (rec : InodeRec) (no
   at_node = ap (λ (x : GraphNode). map (λ (p : ℕ × Pointer). p.1) (pointers_in x.body)) (node_is (g.shape v.device) (running_of g v) n rec node)
 
   -- the pointers of a file, by page index
-  pub of_file : Runs g v.device v.meta → rec.kind ≡ File → pointers_from (running_of g v) rec 0 ≡ pointers_of_node (graph_on g v) (Some n)
+  pub of_file : RunningIsRight g v.device v.meta → rec.kind ≡ File → pointers_from (running_of g v) rec 0 ≡ pointers_of_node (graph_on g v) (Some n)
   of_file runs file =
       all_are_of_node (running_of g v) rec (stands g v.device v.meta n rec runs (record { is_node = node; is_file = file })).file
       ∙ sym (at_node ∙ ap (λ (k : Kind). map (λ (p : ℕ × Pointer). p.1) (pointers_in (body_of (running_of g v) rec k))) file)

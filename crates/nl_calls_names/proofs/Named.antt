@@ -5,7 +5,7 @@ use Rattle.std.specs.Prelude.{IfSome}
 use Rattle.nl_field.specs.Graph.{Graph}
 use Rattle.nl_field.specs.PointerItems.{PointerItems}
 use Rattle.nl_field.specs.declared.shape.Shape.{Shape}
-use Rattle.nl_dir.specs.Directory.{HasRoomFor}
+use Rattle.nl_dir.specs.Directory.{HasRoomForDirty}
 use Rattle.nl_iface.specs.Calls.{StoresPages}
 use Rattle.nl_iface.specs.Device.{IsVolumeShape}
 use Rattle.nl_iface.specs.declared.counts.Counts.{Ghosts}
@@ -13,8 +13,8 @@ use Rattle.nl_inode.specs.Nodes.{Spaces, page_of_node}
 use Rattle.nl_meta.specs.Consistent.{PageOfStamp}
 use Rattle.nl_meta.specs.Nodes.{graph_of}
 use Rattle.nl_meta.specs.Pages.{Pages, besides_0}
-use Rattle.nl_meta_running.specs.Reading.{Reads}
-use Rattle.nl_meta_running.specs.Running.{IsUsed, RunsOn, running_on}
+use Rattle.nl_meta_running.specs.Reading.{ReadsExplainStop}
+use Rattle.nl_meta_running.specs.Running.{IsUsedNode, PreservesRunning, running_on}
 use Rattle.nl_meta_running.specs.declared.answer.Stop.{Stop}
 use Rattle.nl_meta_running.specs.declared.answer.Stop.TheVariants as stop
 use Rattle.nl_tree.specs.Step.{step}
@@ -29,15 +29,15 @@ use Rattle.nl_calls_steps.specs.Steps.{ReadAlike, ReadsOn, Steps}
 use Rattle.nl_calls_files.proofs.DirtyRoom.{few_has_room}
 use Rattle.nl_calls_steps.proofs.Stepping.{read_alike, reads_rise, steps_then}
 use Rattle.nl_namespace.specs.Calls.{ChangesInTree, ChangesNames}
-use Rattle.nl_namespace.specs.Changing.{Changes, Leaves}
+use Rattle.nl_namespace.specs.Changing.{Changes, ChangeLeaves}
 use Rattle.nl_namespace.specs.Reading.{change_stop}
 use Rattle.nl_namespace.specs.declared.answer.Change.{Change}
 use Rattle.nl_namespace.specs.declared.answer.Change.TheVariants as change
 use Rattle.nl_calls_names.specs.Dropping.{DropsNode}
 use Rattle.nl_calls_names.specs.Gathering.{GathersOn, OpensNode, graph_on, node_lost, pointers_of_node}
-use Rattle.nl_calls_names.specs.Naming.{AnswersAs, EndsAs, StandsNow, answer_of, naming_stop, stopped_by}
+use Rattle.nl_calls_names.specs.Naming.{AnswersAs, EndsAsStep, MetadataRepresents, answer_of, naming_stop, stopped_by}
 use Rattle.nl_core.specs.Lines.{Withdraws}
-use Rattle.nl_calls_names.specs.Settling.{CanDrop, IfGone, Settles}
+use Rattle.nl_calls_names.specs.Settling.{CanDrop, IfGone, SettlesChange}
 use Rattle.nl_calls_names.specs.declared.answer.Naming.{Naming}
 use Rattle.nl_calls_names.specs.declared.answer.Naming.TheVariants as naming
 use Rattle.nl_calls_names.proofs.Cores.{few_held, fits_of, renamed_core, renamed_step, roomy_core, roomy_step}
@@ -54,7 +54,7 @@ pub record Named {D : Type 0} (g : Ghosts D) (call : Call) (v x : Core D) (answe
   pub steps : Steps g v x
   pub flight : x.flight ≡ v.flight
   pub answers : AnswersAs g call v x answer
-  pub reads : Reads g v.device x.device (naming_stop answer)
+  pub reads : ReadsExplainStop g v.device x.device (naming_stop answer)
 
 stop_same : (answer : Change) → naming_stop (answer_of answer) ≡ change_stop answer
 stop_same (change.Changed _) = refl
@@ -85,7 +85,7 @@ module _ {D : Type 0} (g : Ghosts D) (v : Core D) (core : IsCore g v) (volume : 
   pub flight_stays : x.flight ≡ v.flight
   flight_stays = ap (λ (y : Core D). y.flight) on.others
 
-  pub tree_stays : (page_of_stamp : ℕ → Option PageOfStamp) (tree : Tree) → StandsNow g v page_of_stamp tree → StandsNow g x page_of_stamp tree
+  pub tree_stays : (page_of_stamp : ℕ → Option PageOfStamp) (tree : Tree) → MetadataRepresents g v page_of_stamp tree → MetadataRepresents g x page_of_stamp tree
   tree_stays = alike.trees
 
 -- ---- it was ended before the names were touched
@@ -94,7 +94,7 @@ module _ {D : Type 0} (g : Ghosts D) (call : Call) (v : Core D) (core : IsCore g
   as_were : w.freeing.items ≡ v.freeing.items
   as_were = gathers.items ∙ append-nil v.freeing.items
 
-  ends : (stop : Stop) (page_of_stamp : ℕ → Option PageOfStamp) (tree : Tree) → StandsNow g w page_of_stamp tree → EndsAs g call w page_of_stamp tree (stopped_by stop)
+  ends : (stop : Stop) (page_of_stamp : ℕ → Option PageOfStamp) (tree : Tree) → MetadataRepresents g w page_of_stamp tree → EndsAsStep g call w page_of_stamp tree (stopped_by stop)
   ends stop.Fault page_of_stamp tree h = h
   ends (stop.Lost a b) page_of_stamp tree h = h
 
@@ -102,18 +102,18 @@ module _ {D : Type 0} (g : Ghosts D) (call : Call) (v : Core D) (core : IsCore g
   stops stop.Fault = refl
   stops (stop.Lost a b) = refl
 
-  pub named_early : (stop : Stop) → Reads g v.device w.device (Some stop) → Named g call v w (stopped_by stop)
+  pub named_early : (stop : Stop) → ReadsExplainStop g v.device w.device (Some stop) → Named g call v w (stopped_by stop)
   named_early stop reads = record {
     core = core_stays g v core volume w gathers.reads as_were gathers.room formed stores;
     steps = steps_stay g v core volume w gathers.reads as_were gathers.room formed stores;
     flight = flight_stays g v core volume w gathers.reads as_were gathers.room formed stores;
     answers = λ page_of_stamp tree h. ends stop page_of_stamp tree (tree_stays g v core volume w gathers.reads as_were gathers.room formed stores page_of_stamp tree h);
-    reads = subst (λ (o : Option Stop). Reads g v.device w.device o) (sym (stops stop)) reads;
+    reads = subst (λ (o : Option Stop). ReadsExplainStop g v.device w.device o) (sym (stops stop)) reads;
   }
 
 -- ---- the names were touched
 
-module _ {D : Type 0} (g : Ghosts D) (call : Call) (v : Core D) (core : IsCore g v) (volume : IsVolumeShape (g.shape v.device)) (few : HasRoomFor 9 v.meta) (w : Core D)
+module _ {D : Type 0} (g : Ghosts D) (call : Call) (v : Core D) (core : IsCore g v) (volume : IsVolumeShape (g.shape v.device)) (few : HasRoomForDirty 9 v.meta) (w : Core D)
     (gathers : GathersOn g v w (pointers_of_node (graph_on g v) (node_lost (graph_on g v) call))) (opens : IfSome (node_lost (graph_on g v) call) (OpensNode g v w)) (no_fault : g.read_faults w.device ≡ g.read_faults v.device)
     (formed_then : g.formed w.device) (stores_then : g.tells → StoresPages g w.device) where
   abbrev pub u : Core D
@@ -128,19 +128,19 @@ module _ {D : Type 0} (g : Ghosts D) (call : Call) (v : Core D) (core : IsCore g
   pub volume_u : IsVolumeShape (g.shape w.device)
   volume_u = subst IsVolumeShape (sym gathers.reads.runs.reads.medium.virtual.same_shape) volume
 
-  pub room_then : HasRoomFor 8 w.meta
+  pub room_then : HasRoomForDirty 8 w.meta
   room_then = let e = ap (λ (xs : List ℕ). length (besides_0 xs)) gathers.reads.runs.dirty in omega (arith, e, few)
 
   graphs : graph_on g u ≡ graph_on g v
   graphs = same_graph g v u volume gathers.reads
 
-  module _ (d : D) (q : Pages) (s : Spaces) (answer : Change) (names : ChangesNames w.nodes (graph_on g w) (graph_of (g.shape d) (running_on g d q)) call answer) (left : Leaves g w.device w.meta w.nodes d q s answer)
-      (reads : Reads g w.device d (change_stop answer)) where
+  module _ (d : D) (q : Pages) (s : Spaces) (answer : Change) (names : ChangesNames w.nodes (graph_on g w) (graph_of (g.shape d) (running_on g d q)) call answer) (left : ChangeLeaves g w.device w.meta w.nodes d q s answer)
+      (reads : ReadsExplainStop g w.device d (change_stop answer)) where
     abbrev mid : Core D
     mid = record w { device = d; meta = q; nodes = s }
 
-    reads_all : Reads g v.device d (naming_stop (answer_of answer))
-    reads_all = subst (λ (o : Option Stop). Reads g v.device d o) (sym (stop_same answer))
+    reads_all : ReadsExplainStop g v.device d (naming_stop (answer_of answer))
+    reads_all = subst (λ (o : Option Stop). ReadsExplainStop g v.device d o) (sym (stop_same answer))
         (then_reads g v.device w.device d gathers.reads.runs.reads.medium.virtual.same_stamps (change_stop answer) no_fault reads)
 
     faults : g.read_faults w.device ≤ g.read_faults d
@@ -152,7 +152,7 @@ module _ {D : Type 0} (g : Ghosts D) (call : Call) (v : Core D) (core : IsCore g
       gone_names = subst (λ (a : Change). ChangesNames w.nodes (graph_on g w) (graph_of (g.shape d) (running_on g d q)) call a) is names
 
       gone_left : Changes g w.device w.meta d q s (Some n)
-      gone_left = subst (λ (a : Change). Leaves g w.device w.meta w.nodes d q s a) is left
+      gone_left = subst (λ (a : Change). ChangeLeaves g w.device w.meta w.nodes d q s a) is left
 
       lost_is : node_lost (graph_on g v) call ≡ Some n
       lost_is = ap (λ (z : Graph). node_lost z call) (sym graphs) ∙ is_lost w.nodes (graph_on g w) (graph_of (g.shape d) (running_on g d q)) n call gone_names
@@ -160,7 +160,7 @@ module _ {D : Type 0} (g : Ghosts D) (call : Call) (v : Core D) (core : IsCore g
       opened : OpensNode g v w n
       opened = subst (λ (o : Option ℕ). IfSome o (OpensNode g v w)) lost_is opens
 
-      used_then : IsUsed g w.device w.meta n
+      used_then : IsUsedNode g w.device w.meta n
       used_then = then_used g v u volume gathers.reads n opened.used
 
       few_then : length (besides_0 q.dirty) < 63
@@ -198,7 +198,7 @@ module _ {D : Type 0} (g : Ghosts D) (call : Call) (v : Core D) (core : IsCore g
 
     -- ---- it was settled
 
-    module _ (law : ChangesInTree) (formed : g.formed d) (stores : g.tells → StoresPages g d) (first : ℕ) (is_first : first ≡ length v.freeing.items) (x : Core D) (settled : Settles first answer mid x) where
+    module _ (law : ChangesInTree) (formed : g.formed d) (stores : g.tells → StoresPages g d) (first : ℕ) (is_first : first ≡ length v.freeing.items) (x : Core D) (settled : SettlesChange first answer mid x) where
       -- the call was done
       module _ (now : Pages) (after : Spaces) (f : PointerItems) (gone : Option ℕ) (done : answer_of answer ≡ naming.Done) (e : Ended g w.device w.meta w.nodes d now after call gone) (items : f.items ≡ u.freeing.items ++ pointers_of_node (graph_on g u) gone)
           (room : length u.freeing.items + u.freeing.room ≤ length f.items + f.room) where
@@ -208,7 +208,7 @@ module _ {D : Type 0} (g : Ghosts D) (call : Call) (v : Core D) (core : IsCore g
         few_now : length (running_holders g d now) ≤ (g.shape u.device).cap
         few_now = few_held g u d now after f call gone e faults items room core_then volume_u
 
-        answers : (page_of_stamp : ℕ → Option PageOfStamp) (tree : Tree) → StandsNow g v page_of_stamp tree → EndsAs g call renamed page_of_stamp tree naming.Done
+        answers : (page_of_stamp : ℕ → Option PageOfStamp) (tree : Tree) → MetadataRepresents g v page_of_stamp tree → EndsAsStep g call renamed page_of_stamp tree naming.Done
         answers page_of_stamp tree h =
             let at = read_first.trees page_of_stamp tree h in (
               is_done g w.device w.meta w.nodes d now after call gone e (fits_of g u core_then) few_now law page_of_stamp tree at,
@@ -225,7 +225,7 @@ module _ {D : Type 0} (g : Ghosts D) (call : Call) (v : Core D) (core : IsCore g
         }
 
       -- the names stay
-      module _ (on : RunsOn g w.device w.meta d q × (s ≡ w.nodes)) (short : Withdraws first mid x) where
+      module _ (on : PreservesRunning g w.device w.meta d q × (s ≡ w.nodes)) (short : Withdraws first mid x) where
         x_is : x ≡ record u { device = d; meta = q; freeing = x.freeing }
         x_is = short.others ∙ ap (λ (z : Spaces). record w { device = d; meta = q; nodes = z; freeing = x.freeing }) on.1
 
@@ -241,10 +241,10 @@ module _ {D : Type 0} (g : Ghosts D) (call : Call) (v : Core D) (core : IsCore g
         room : length v.freeing.items + v.freeing.room ≤ length x.freeing.items + x.freeing.room
         room = short_room mid x v.freeing _ first is_first gathers.items gathers.room short
 
-        stands_y : (page_of_stamp : ℕ → Option PageOfStamp) (tree : Tree) → StandsNow g v page_of_stamp tree → StandsNow g y page_of_stamp tree
+        stands_y : (page_of_stamp : ℕ → Option PageOfStamp) (tree : Tree) → MetadataRepresents g v page_of_stamp tree → MetadataRepresents g y page_of_stamp tree
         stands_y page_of_stamp tree h = tree_stays g u core_then volume_u y on_u items room formed stores page_of_stamp tree (read_first.trees page_of_stamp tree h)
 
-        named_same : ((page_of_stamp : ℕ → Option PageOfStamp) (tree : Tree) → StandsNow g u page_of_stamp tree → StandsNow g y page_of_stamp tree → EndsAs g call y page_of_stamp tree (answer_of answer)) → Named g call v x (answer_of answer)
+        named_same : ((page_of_stamp : ℕ → Option PageOfStamp) (tree : Tree) → MetadataRepresents g u page_of_stamp tree → MetadataRepresents g y page_of_stamp tree → EndsAsStep g call y page_of_stamp tree (answer_of answer)) → Named g call v x (answer_of answer)
         named_same ends = subst (λ (z : Core D). Named g call v z (answer_of answer)) (sym x_is) (record {
           core = core_stays g u core_then volume_u y on_u items room formed stores;
           steps = steps_then g v u y read_first.steps (steps_stay g u core_then volume_u y on_u items room formed stores);
@@ -257,7 +257,7 @@ module _ {D : Type 0} (g : Ghosts D) (call : Call) (v : Core D) (core : IsCore g
         same_shapes = on.0.reads.medium.virtual.same_shape
 
         -- a refusal is the step's
-        refused : (refusal : Refusal) → answer ≡ change.No refusal → (page_of_stamp : ℕ → Option PageOfStamp) (tree : Tree) → StandsNow g u page_of_stamp tree → step (g.shape d) tree call ≡ record { reply = No refusal; bytes = []; tree = tree }
+        refused : (refusal : Refusal) → answer ≡ change.No refusal → (page_of_stamp : ℕ → Option PageOfStamp) (tree : Tree) → MetadataRepresents g u page_of_stamp tree → step (g.shape d) tree call ≡ record { reply = No refusal; bytes = []; tree = tree }
         refused refusal is page_of_stamp tree h = subst (λ (z : Shape). step z tree call ≡ record { reply = No refusal; bytes = []; tree = tree }) (sym same_shapes)
             (law (g.shape w.device) (running_on g w.device w.meta) page_of_stamp w.nodes (graph_of (g.shape d) (running_on g d q)) tree call (change.No refusal) (holds_tree g w.device w.meta w.nodes page_of_stamp tree (fits_of g u core_then) h)
             (subst (λ (a : Change). ChangesNames w.nodes (graph_on g w) (graph_of (g.shape d) (running_on g d q)) call a) is names))
@@ -265,13 +265,13 @@ module _ {D : Type 0} (g : Ghosts D) (call : Call) (v : Core D) (core : IsCore g
       pub named : Named g call v x (answer_of answer)
       named = by answer refl left settled
         where
-          by : (a : Change) → answer ≡ a → Leaves g w.device w.meta w.nodes d q s a → Settles first a mid x → Named g call v x (answer_of answer)
+          by : (a : Change) → answer ≡ a → ChangeLeaves g w.device w.meta w.nodes d q s a → SettlesChange first a mid x → Named g call v x (answer_of answer)
           by (change.Changed None) e l z = subst (λ (k : Core D). Named g call v k (answer_of answer)) (sym z.others)
               (named_done q s x.freeing None (ap answer_of e)
               (ended_all_named g w.device w.meta w.nodes d q s call l (subst (λ (a : Change). ChangesNames w.nodes (graph_on g w) (graph_of (g.shape d) (running_on g d q)) call a) e names))
               (short_items mid x v.freeing _ first is_first gathers.items gathers.room z ∙ sym (append-nil v.freeing.items)) (short_room mid x v.freeing _ first is_first gathers.items gathers.room z))
           by (change.Changed (Some n)) e l z = subst (λ (k : Core D). Named g call v k (answer_of answer)) (sym z.others)
               (named_done x.meta x.nodes w.freeing (Some n) (ap answer_of e) (dropped n e x.meta x.nodes z.drops) (dropped_items n e x.meta x.nodes z.drops) gathers.room)
-          by (change.No refusal) e l z = named_same l z (λ page_of_stamp tree before now. subst (λ (a : Naming). EndsAs g call (y l z) page_of_stamp tree a) (sym (ap answer_of e)) (refused l z refusal e page_of_stamp tree before, now))
-          by change.Fault e l z = named_same l z (λ page_of_stamp tree before now. subst (λ (a : Naming). EndsAs g call (y l z) page_of_stamp tree a) (sym (ap answer_of e)) now)
-          by (change.Lost a b) e l z = named_same l z (λ page_of_stamp tree before now. subst (λ (a : Naming). EndsAs g call (y l z) page_of_stamp tree a) (sym (ap answer_of e)) now)
+          by (change.No refusal) e l z = named_same l z (λ page_of_stamp tree before now. subst (λ (a : Naming). EndsAsStep g call (y l z) page_of_stamp tree a) (sym (ap answer_of e)) (refused l z refusal e page_of_stamp tree before, now))
+          by change.Fault e l z = named_same l z (λ page_of_stamp tree before now. subst (λ (a : Naming). EndsAsStep g call (y l z) page_of_stamp tree a) (sym (ap answer_of e)) now)
+          by (change.Lost a b) e l z = named_same l z (λ page_of_stamp tree before now. subst (λ (a : Naming). EndsAsStep g call (y l z) page_of_stamp tree a) (sym (ap answer_of e)) now)

@@ -6,7 +6,7 @@ use Rattle.nl_field.specs.declared.shape.Shape.{Shape}
 use Rattle.nl_iface.specs.declared.counts.Counts.{Ghosts}
 use Rattle.nl_inode.specs.Nodes.{Spaces}
 use Rattle.nl_meta.specs.Committed.{VirtualMap}
-use Rattle.nl_meta.specs.Consistent.{AddressesRight, EntriesRight, IsThere, NodesRight, PageOfStamp, PointersRight, RightFor}
+use Rattle.nl_meta.specs.Consistent.{AddressesRight, EntriesRight, PointerIsThere, NodesRight, PageOfStamp, PointersRight, RightFor}
 use Rattle.nl_field.specs.Members.{Has}
 use Rattle.nl_meta.specs.Nodes.{Held, graph_of, held_in}
 use Rattle.nl_meta.specs.Pages.{Pages}
@@ -27,7 +27,7 @@ use Rattle.nl_tree.specs.declared.reply.Reply.TheVariants.{Done}
 use Rattle.nl_tree.proofs.StepProofs.{order_after}
 use Rattle.nl_tree.proofs.TreeProofs.{tree_laws}
 use Rattle.nl_journal_commit.specs.Holding.{running_holders}
-use Rattle.nl_spec_commits.specs.Trees.{RunsAs}
+use Rattle.nl_spec_commits.specs.Trees.{RepresentsTree}
 use Rattle.nl_namespace.specs.Calls.{ChangesInTree, IsStep}
 use Rattle.nl_namespace.specs.Changing.{FreeFits}
 use Rattle.nl_namespace.specs.Standing.{HoldsTree}
@@ -44,7 +44,7 @@ step_order shape tree call h =
     by (Some refusal) = h
 
 -- a volume that runs, with what is free, is one for which the law of the calls speaks
-pub holds_tree : {D : Type 0} (g : Ghosts D) (s : D) (pages : Pages) (free : Spaces) (page_of_stamp : ℕ → Option PageOfStamp) (tree : Tree) → FreeFits g s pages free → RunsAs (g.shape s) (running_on g s pages) page_of_stamp tree
+pub holds_tree : {D : Type 0} (g : Ghosts D) (s : D) (pages : Pages) (free : Spaces) (page_of_stamp : ℕ → Option PageOfStamp) (tree : Tree) → FreeFits g s pages free → RepresentsTree (g.shape s) (running_on g s pages) page_of_stamp tree
     → HoldsTree (g.shape s) (running_on g s pages) page_of_stamp free tree
 holds_tree g s pages free page_of_stamp tree fits r = record {
   right = r.right;
@@ -57,7 +57,7 @@ holds_tree g s pages free page_of_stamp tree fits r = record {
 }
 
 module _ {D : Type 0} (g : Ghosts D) (s : D) (pages : Pages) (free : Spaces) (t : D) (now : Pages) (after : Spaces) (call : Call) (gone : Option ℕ) (e : Ended g s pages free t now after call gone) (fits : FreeFits g s pages free)
-    (few : length (running_holders g t now) ≤ (g.shape s).cap) (law : ChangesInTree) (page_of_stamp : ℕ → Option PageOfStamp) (tree : Tree) (r : RunsAs (g.shape s) (running_on g s pages) page_of_stamp tree) where
+    (few : length (running_holders g t now) ≤ (g.shape s).cap) (law : ChangesInTree) (page_of_stamp : ℕ → Option PageOfStamp) (tree : Tree) (r : RepresentsTree (g.shape s) (running_on g s pages) page_of_stamp tree) where
   abbrev shape : Shape
   shape = g.shape s
 
@@ -76,7 +76,7 @@ module _ {D : Type 0} (g : Ghosts D) (s : D) (pages : Pages) (free : Spaces) (t 
   represents : Represents (bytes_for page_of_stamp) (graph_of shape later) stepped
   represents = subst (λ (h : Shape). Represents (bytes_for page_of_stamp) (graph_of h later) stepped) shapes answered.1
 
-  pointers : PointersRight (held_in shape later) (IsThere page_of_stamp)
+  pointers : PointersRight (held_in shape later) (PointerIsThere page_of_stamp)
   pointers =
       let was = r.right.tree.pointers in
       let in_old = subst (λ (h : Shape). (k : Held) → Has (held_in h later) k → Has (held_in shape (running_on g s pages)) k) shapes e.fewer in
@@ -107,7 +107,7 @@ module _ {D : Type 0} (g : Ghosts D) (s : D) (pages : Pages) (free : Spaces) (t 
   stands : PagesRepresent shape later page_of_stamp stepped
   stands = record { is_tree = subst IsTree same (is_tree shape later page_of_stamp right); depicts = represents }
 
-  runs_as : RunsAs shape later page_of_stamp stepped
+  runs_as : RepresentsTree shape later page_of_stamp stepped
   runs_as = record {
     right = right;
     represents = stands;
@@ -122,5 +122,5 @@ module _ {D : Type 0} (g : Ghosts D) (s : D) (pages : Pages) (free : Spaces) (t 
   pub is_done : (step (g.shape t) tree call).reply ≡ Done
   is_done = subst (λ (h : Shape). (step h tree call).reply ≡ Done) (sym shapes) answered.0
 
-  pub runs_stepped : RunsAs (g.shape t) later page_of_stamp (step (g.shape t) tree call).tree
-  runs_stepped = subst (λ (h : Shape). RunsAs h later page_of_stamp (step h tree call).tree) (sym shapes) runs_as
+  pub runs_stepped : RepresentsTree (g.shape t) later page_of_stamp (step (g.shape t) tree call).tree
+  runs_stepped = subst (λ (h : Shape). RepresentsTree h later page_of_stamp (step h tree call).tree) (sym shapes) runs_as

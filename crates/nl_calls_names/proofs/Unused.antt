@@ -16,12 +16,12 @@ use Rattle.nl_meta.specs.Nodes.{body_of, bytes_of_node, graph_of, inode_at, node
 use Rattle.nl_meta.proofs.Lists.{none_some, some_in}
 use Rattle.nl_meta.proofs.SlotProofs.{one_slot}
 use Rattle.nl_inode.specs.Free.{is_free}
-use Rattle.nl_inode.specs.FreeLaws.{NodeIs, PoolIsFree, Uses}
+use Rattle.nl_inode.specs.FreeLaws.{NodeIs, PoolIsFree, UsesAddress}
 use Rattle.nl_inode.specs.Nodes.{NodeBecomes, Spaces, is_free_address}
 use Rattle.nl_indirect.specs.Storing.{DiffersInPage}
 use Rattle.nl_indirect.proofs.LawProofs.{at-slot}
 use Rattle.nl_indirect.proofs.OtherNodes.{after-same, same-graph, same-record}
-use Rattle.nl_files.specs.Cutting.{AreOfPool, GivesBack, LosesAddress}
+use Rattle.nl_files.specs.Cutting.{AreOfPool, GivesBackAddresses, LosesAddress}
 
 -- ---- lists of addresses
 
@@ -158,7 +158,7 @@ module _ (shape : Shape) (bounds : ShapeBounds shape) (old new : VirtualMap) (n 
       root r e = let some = bounds.some_nodes in nodes.root r (sym (same_of 0 (omega (arith, some)) (λ z. not_root (sym z))) ∙ e)
 
   -- what it had is free
-  module _ (was : InodeRec) (at : inode_at old n ≡ Some was) (s t u : Spaces) (gives : GivesBack (slots_of was) [] s t) (number : NodeBecomes n true t u) where
+  module _ (was : InodeRec) (at : inode_at old n ≡ Some was) (s t u : Spaces) (gives : GivesBackAddresses (slots_of was) [] s t) (number : NodeBecomes n true t u) where
     equal : (a : ℕ) → is_free_address u a ≡ is_free_address t a
     equal a = λ i. nat_le (number.first i) a && is_free (number.pool i) (a - number.first i)
 
@@ -183,7 +183,7 @@ module _ (shape : Shape) (bounds : ShapeBounds shape) (old new : VirtualMap) (n 
     pub pool_is_free : PoolIsFree shape old s → PoolIsFree shape new u
     pool_is_free free = record { first = number.first ∙ gives.first ∙ free.first; each = each }
       where
-        each : (a : ℕ) → u.first ≤ a → a < shape.vaddrs → (is_free_address u a ≡ true) ↔ (Uses shape new a → ⊥)
+        each : (a : ℕ) → u.first ≤ a → a < shape.vaddrs → (is_free_address u a ≡ true) ↔ (UsesAddress shape new a → ⊥)
         each a low high = by (lost_or_not a some)
           where
             some : a ≢ 0
@@ -192,7 +192,7 @@ module _ (shape : Shape) (bounds : ShapeBounds shape) (old new : VirtualMap) (n 
             low_before : s.first ≤ a
             low_before = let f = number.first in let g = gives.first in omega (arith, low, f, g)
 
-            by : LosesAddress (slots_of was) [] a ⊎ (LosesAddress (slots_of was) [] a → ⊥) → (is_free_address u a ≡ true) ↔ (Uses shape new a → ⊥)
+            by : LosesAddress (slots_of was) [] a ⊎ (LosesAddress (slots_of was) [] a → ⊥) → (is_free_address u a ≡ true) ↔ (UsesAddress shape new a → ⊥)
             by (inl l) = (
               (λ f x. not_node x.0 x.2.rec x.2.is_node (right.one_use x.0 x.1 n l.at a (address x.0 x.1 a x.2) (owned a l)).0),
               (λ free_now. equal a ∙ gives.given a l),

@@ -4,7 +4,7 @@ use Rattle.nl_field.specs.Bytes.{zeros}
 use Rattle.nl_field.specs.Pointers.{no_pointer}
 use Rattle.nl_field.specs.declared.inode.InodeRec.{InodeRec}
 use Rattle.nl_field.specs.declared.inode.Kind.TheVariants.{Unused}
-use Rattle.nl_files.specs.Cutting.{AreOfPool, GivesBack}
+use Rattle.nl_files.specs.Cutting.{AreOfPool, GivesBackAddresses}
 use Rattle.nl_inode.specs.Nodes.{NodeBecomes, PutsNode, Spaces}
 use Rattle.nl_meta.specs.Nodes.{inode_at, slots_of}
 use Rattle.nl_meta.specs.Pages.{Pages, page_of}
@@ -23,5 +23,5 @@ pub record DropsNode (n : ℕ) (old new : Pages) (s t : Spaces) : Type 0 where
   pub was : inode_at (page_of old) n ≡ Some rec
   pub puts : PutsNode n (unused_as rec.generation) old new
   pub between : Spaces
-  pub addresses : GivesBack (slots_of rec) [] s between
+  pub addresses : GivesBackAddresses (slots_of rec) [] s between
   pub number : NodeBecomes n true between t

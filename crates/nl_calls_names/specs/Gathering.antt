@@ -9,7 +9,7 @@ use Rattle.nl_meta.specs.Pages.{page_of}
 use Rattle.nl_tree.specs.Represents.{node_reached}
 use Rattle.nl_tree.specs.declared.call.Call.{Call}
 use Rattle.nl_tree.specs.declared.call.Call.TheVariants.{Rename, Rmdir, Unlink}
-use Rattle.nl_meta_running.specs.Running.{IsUsed}
+use Rattle.nl_meta_running.specs.Running.{IsUsedNode}
 use Rattle.nl_core.specs.Core.{running_of}
 use Rattle.nl_core.specs.declared.state.Core.{Core}
 use Rattle.nl_calls_steps.specs.Steps.{ReadsOn}
@@ -41,5 +41,5 @@ pub record GathersOn {D : Type 0} (g : Ghosts D) (old new : Core D) (gone : List
 
 -- The node was used, and the page of its record is resident.
 pub record OpensNode {D : Type 0} (g : Ghosts D) (old new : Core D) (n : ℕ) : Type 0 where
-  pub used : IsUsed g old.device old.meta n
+  pub used : IsUsedNode g old.device old.meta n
   pub there : IsSome (page_of new.meta (page_of_node n))

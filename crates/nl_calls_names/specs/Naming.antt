@@ -8,7 +8,7 @@ use Rattle.nl_tree.specs.Step.{step}
 use Rattle.nl_tree.specs.Tree.{Tree}
 use Rattle.nl_tree.specs.declared.call.Call.{Call}
 use Rattle.nl_tree.specs.declared.reply.Reply.TheVariants.{Done, No}
-use Rattle.nl_spec_commits.specs.Trees.{RunsAs}
+use Rattle.nl_spec_commits.specs.Trees.{RepresentsTree}
 use Rattle.nl_core.specs.Core.{running_of}
 use Rattle.nl_core.specs.declared.state.Core.{Core}
 use Rattle.nl_namespace.specs.declared.answer.Change.{Change}
@@ -17,24 +17,24 @@ use Rattle.nl_calls_names.specs.declared.answer.Naming.{Naming}
 use Rattle.nl_calls_names.specs.declared.answer.Naming.TheVariants as naming
 
 -- the metadata of a core stands for the tree, with what the page of each write sequence number holds
-abbrev pub StandsNow : {D : Type 0} → Ghosts D → Core D → (ℕ → Option PageOfStamp) → Tree → Type 0
-StandsNow g v page_of_stamp tree = RunsAs (g.shape v.device) (running_of g v) page_of_stamp tree
+abbrev pub MetadataRepresents : {D : Type 0} → Ghosts D → Core D → (ℕ → Option PageOfStamp) → Tree → Type 0
+MetadataRepresents g v page_of_stamp tree = RepresentsTree (g.shape v.device) (running_of g v) page_of_stamp tree
 
 -- Done, the call is what the step of the tree is, and the core stands for the tree after it. Refused, it is refused as the step is, also
 -- for want of room. Where a read failed, and where a page was lost, the tree stays too.
-abbrev pub EndsAs : {D : Type 0} → Ghosts D → Call → Core D → (ℕ → Option PageOfStamp) → Tree → Naming → Type 0
-EndsAs g call v page_of_stamp tree naming.Done =
-    ((step (g.shape v.device) tree call).reply ≡ Done) × StandsNow g v page_of_stamp (step (g.shape v.device) tree call).tree
-EndsAs g call v page_of_stamp tree (naming.No refusal) =
-    (step (g.shape v.device) tree call ≡ record { reply = No refusal; bytes = []; tree = tree }) × StandsNow g v page_of_stamp tree
-EndsAs g call v page_of_stamp tree naming.Fault = StandsNow g v page_of_stamp tree
-EndsAs g call v page_of_stamp tree (naming.Lost w f) = StandsNow g v page_of_stamp tree
+abbrev pub EndsAsStep : {D : Type 0} → Ghosts D → Call → Core D → (ℕ → Option PageOfStamp) → Tree → Naming → Type 0
+EndsAsStep g call v page_of_stamp tree naming.Done =
+    ((step (g.shape v.device) tree call).reply ≡ Done) × MetadataRepresents g v page_of_stamp (step (g.shape v.device) tree call).tree
+EndsAsStep g call v page_of_stamp tree (naming.No refusal) =
+    (step (g.shape v.device) tree call ≡ record { reply = No refusal; bytes = []; tree = tree }) × MetadataRepresents g v page_of_stamp tree
+EndsAsStep g call v page_of_stamp tree naming.Fault = MetadataRepresents g v page_of_stamp tree
+EndsAsStep g call v page_of_stamp tree (naming.Lost w f) = MetadataRepresents g v page_of_stamp tree
 
 -- The call ends so for any tree for which the core stood.
 abbrev pub AnswersAs : {D : Type 0} → Ghosts D → Call → Core D → Core D → Naming → Type 0
 AnswersAs g call old new answer =
-    (page_of_stamp : ℕ → Option PageOfStamp) (tree : Tree) → StandsNow g old page_of_stamp tree
-    → EndsAs g call new page_of_stamp tree answer
+    (page_of_stamp : ℕ → Option PageOfStamp) (tree : Tree) → MetadataRepresents g old page_of_stamp tree
+    → EndsAsStep g call new page_of_stamp tree answer
 
 -- what ended the call early
 abbrev pub naming_stop : Naming → Option Stop

@@ -10,16 +10,16 @@ use Rattle.nl_namespace.specs.declared.answer.Change.TheVariants as change
 use Rattle.nl_calls_names.specs.Dropping.{DropsNode, HasOfPool}
 
 -- A node that lost its name is dropped, and its pointers await their free.
-pub record Drops {D : Type 0} (n : ℕ) (old new : Core D) : Type 0 where
+pub record DropsUnnamedNode {D : Type 0} (n : ℕ) (old new : Core D) : Type 0 where
   pub drops : DropsNode n old.meta new.meta old.nodes new.nodes
   pub others : new ≡ record old { meta = new.meta; nodes = new.nodes }
 
-abbrev pub Settles : {D : Type 0} → ℕ → Change → Core D → Core D → Type 0
-Settles count (change.Changed None) old new = Withdraws count old new
-Settles count (change.Changed (Some n)) old new = Drops n old new
-Settles count (change.No refusal) old new = Withdraws count old new
-Settles count change.Fault old new = Withdraws count old new
-Settles count (change.Lost w f) old new = Withdraws count old new
+abbrev pub SettlesChange : {D : Type 0} → ℕ → Change → Core D → Core D → Type 0
+SettlesChange count (change.Changed None) old new = Withdraws count old new
+SettlesChange count (change.Changed (Some n)) old new = DropsUnnamedNode n old new
+SettlesChange count (change.No refusal) old new = Withdraws count old new
+SettlesChange count change.Fault old new = Withdraws count old new
+SettlesChange count (change.Lost w f) old new = Withdraws count old new
 
 -- The node can be dropped.
 pub record CanDrop {D : Type 0} (n : ℕ) (v : Core D) : Type 0 where

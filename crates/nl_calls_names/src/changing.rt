@@ -1,10 +1,10 @@
 ghost use Rattle.std.specs.Prelude.{◌≡◌};
 ghost use Rattle.nl_core.specs.Core.{IsCore};
-ghost use Rattle.nl_dir.specs.Directory.{HasRoomFor};
+ghost use Rattle.nl_dir.specs.Directory.{HasRoomForDirty};
 ghost use Rattle.nl_calls_steps.specs.Steps.{Steps};
-ghost use Rattle.nl_namespace.specs.Calls.{HasNames, IsOfNames};
+ghost use Rattle.nl_namespace.specs.Calls.{PathsHaveNames, IsOfNames};
 ghost use Rattle.nl_calls_names.specs.Naming.{AnswersAs, naming_stop};
-ghost use Rattle.nl_meta_running.specs.Reading.{Reads};
+ghost use Rattle.nl_meta_running.specs.Reading.{ReadsExplainStop};
 
 use crate::answer::{Naming, stopped};
 use crate::gathering::gather_lost;
@@ -23,14 +23,14 @@ use nl_tree::Call;
 /// of them leave the tree as it was.
 pub fn change_names<D: MovingPages>(core: &mut Core<D>, call: &Call) -> Naming
     requires core { IsCore D.Counts core.old }
-    requires names { HasNames call.now }
+    requires names { PathsHaveNames call.now }
     requires of_names { IsOfNames call.now }
-    requires room { HasRoomFor 9 core.old.meta }
+    requires room { HasRoomForDirty 9 core.old.meta }
     ensures core { IsCore D.Counts core.new }
     ensures steps { Steps D.Counts core.old core.new }
     ensures flight { core.new.flight ≡ core.old.flight }
     ensures answer { AnswersAs D.Counts call.now core.old core.new result }
-    ensures reads { Reads D.Counts core.old.device core.new.device (naming_stop result) }
+    ensures reads { ReadsExplainStop D.Counts core.old.device core.new.device (naming_stop result) }
 {
     device_stands(&core.device);
     changes_in_tree();

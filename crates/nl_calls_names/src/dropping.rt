@@ -1,6 +1,6 @@
 // A node that has lost its name becomes unused, and its addresses and its number free.
 ghost use Rattle.std.specs.Prelude.{◌≡◌, ◌<◌, IsSome, [], true, length};
-ghost use Rattle.nl_files.specs.Cutting.{AreOfPool, GivesBack};
+ghost use Rattle.nl_files.specs.Cutting.{AreOfPool, GivesBackAddresses};
 ghost use Rattle.nl_inode.specs.Nodes.{page_of_node};
 ghost use Rattle.nl_meta.specs.Nodes.{inode_at};
 ghost use Rattle.nl_meta.specs.Pages.{has_room, page_of};
@@ -44,7 +44,7 @@ fn unused(generation: u32) -> InodeRec
 // The addresses are free that are not 0.
 fn give_all(nodes: &mut Nodes, addresses: &[u32; 16])
     requires pool { AreOfPool nodes.old addresses.now }
-    ensures { GivesBack addresses.now [] nodes.old nodes.new }
+    ensures { GivesBackAddresses addresses.now [] nodes.old nodes.new }
 {
     for slot in 0..SLOTS {
         if addresses[slot] != 0 {

@@ -3,8 +3,8 @@ ghost use Rattle.nl_core.specs.Core.{IsCore};
 ghost use Rattle.nl_calls_steps.specs.Steps.{ReadsOn};
 ghost use Rattle.nl_namespace.specs.Calls.{IsOfNames};
 ghost use Rattle.nl_calls_names.specs.Gathering.{graph_on, node_lost};
-ghost use Rattle.nl_meta_running.specs.Reading.{Reads, stop_of};
-ghost use Rattle.nl_meta_running.specs.Running.{IsUsed};
+ghost use Rattle.nl_meta_running.specs.Reading.{ReadsExplainStop, stop_of};
+ghost use Rattle.nl_meta_running.specs.Running.{IsUsedNode};
 ghost use Rattle.nl_tree.specs.Represents.{node_reached};
 
 use nl_calls_steps::look_up;
@@ -24,8 +24,8 @@ pub(crate) fn find_lost<D: MovingPages>(
     ensures core { IsCore D.Counts core.new }
     ensures same { ReadsOn D.Counts core.old core.new }
     ensures node { IfOk result (λ o. o ≡ node_lost (graph_on D.Counts core.old) call.now) }
-    ensures used { IfOk result (λ o. IfSome o (IsUsed D.Counts core.old.device core.old.meta)) }
-    ensures reads { Reads D.Counts core.old.device core.new.device (stop_of result) }
+    ensures used { IfOk result (λ o. IfSome o (IsUsedNode D.Counts core.old.device core.old.meta)) }
+    ensures reads { ReadsExplainStop D.Counts core.old.device core.new.device (stop_of result) }
 {
     match call {
         Call::Mkdir(_) => Ok(None),
@@ -43,8 +43,8 @@ pub(crate) fn node_at<D: MovingPages>(core: &mut Core<D>, path: &Path) -> Result
     ensures core { IsCore D.Counts core.new }
     ensures same { ReadsOn D.Counts core.old core.new }
     ensures node { IfOk result (λ o. o ≡ node_reached (graph_on D.Counts core.old) 0 path.now) }
-    ensures used { IfOk result (λ o. IfSome o (IsUsed D.Counts core.old.device core.old.meta)) }
-    ensures reads { Reads D.Counts core.old.device core.new.device (stop_of result) }
+    ensures used { IfOk result (λ o. IfSome o (IsUsedNode D.Counts core.old.device core.old.meta)) }
+    ensures reads { ReadsExplainStop D.Counts core.old.device core.new.device (stop_of result) }
 {
     match look_up(core, path) {
         Look::At(ino) => Ok(Some(ino)),

@@ -1,6 +1,6 @@
 ghost use Rattle.std.specs.Prelude.{◌≡◌, ◌≤◌, length};
 ghost use Rattle.nl_calls_names.specs.Naming.{answer_of};
-ghost use Rattle.nl_calls_names.specs.Settling.{CanDrop, IfGone, Settles};
+ghost use Rattle.nl_calls_names.specs.Settling.{CanDrop, IfGone, SettlesChange};
 
 use crate::answer::Naming;
 use crate::dropping::drop_node;
@@ -13,7 +13,7 @@ use nl_namespace::Change;
 pub(crate) fn settle<D: MovingPages>(core: &mut Core<D>, first: u32, answer: Change) -> Naming
     requires drop { IfGone answer (λ n. CanDrop n core.old) }
     requires first { first ≤ length core.old.freeing.items }
-    ensures settles { Settles first answer core.old core.new }
+    ensures settles { SettlesChange first answer core.old core.new }
     ensures answer { result ≡ answer_of answer }
 {
     match answer {

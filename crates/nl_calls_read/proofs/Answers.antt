@@ -22,7 +22,7 @@ use Rattle.nl_tree.specs.declared.reply.Reply.{Reply}
 use Rattle.nl_tree.specs.declared.reply.Reply.TheVariants.{Content, Dir as DirReply, File as FileReply, Names, No}
 use Rattle.nl_tree.proofs.StepProofs.{performed, refused_before}
 use Rattle.nl_namespace.specs.Listing.{IsListing}
-use Rattle.nl_spec_commits.specs.Trees.{RunsAs}
+use Rattle.nl_spec_commits.specs.Trees.{RepresentsTree}
 use Rattle.nl_calls_read.specs.Spots.{refusal_of_path}
 use Rattle.nl_calls_files.proofs.Directories.{directory-count, order, room, under-directory}
 use Rattle.nl_calls_files.proofs.Entries.{IsUnder, entries-are, length-named, named, text-same}
@@ -54,7 +54,7 @@ mapped f from (suc count) (x ∷ xs) n each =
     more : (k : ℕ) → k < count → suc k < suc count
     more k h = omega (arith, h)
 
-module _ (shape : Shape) (pages : VirtualMap) (page_of_stamp : ℕ → Option PageOfStamp) (tree : Tree) (runs : RunsAs shape pages page_of_stamp tree) where
+module _ (shape : Shape) (pages : VirtualMap) (page_of_stamp : ℕ → Option PageOfStamp) (tree : Tree) (runs : RepresentsTree shape pages page_of_stamp tree) where
   refused : (call : Call) (r : Refusal) → refusal_before tree call ≡ Some r → Answers (step shape tree call) (No r) []
   refused call r e = subst (λ (o : Outcome). Answers o (No r) []) (sym (refused_before shape tree call r (sym e))) (refl, refl)
 

@@ -23,7 +23,7 @@ use Rattle.nl_namespace.specs.Paths.{Looks}
 use Rattle.nl_namespace.specs.declared.answer.Look.TheVariants as look
 use Rattle.nl_files.specs.Reading.{AreBytesFrom, byte_at, file_page}
 use Rattle.nl_core.specs.Core.{IsCore, running_of}
-use Rattle.nl_core.specs.Trees.{CoreRuns}
+use Rattle.nl_core.specs.Trees.{CoreRepresentsTree}
 use Rattle.nl_core.specs.declared.state.Core.{Core}
 use Rattle.nl_calls_files.specs.FileTrees.{held_content}
 use Rattle.nl_calls_files.specs.Fits.{IsFileOf}
@@ -49,7 +49,7 @@ module _ {D : Type 0} (g : Ghosts D) (u v : Core D) (volume : IsVolumeShape (g.s
   has-back spot.Fault h = tt
 
 -- the spot of the node at the end of a path
-pub at-node : {D : Type 0} (g : Ghosts D) (u : Core D) (law : LooksInTree) (page_of_stamp : ℕ → Option PageOfStamp) (tree : Tree) → CoreRuns g u page_of_stamp tree → (path : List (List ℕ)) → is_too_long path ≡ false
+pub at-node : {D : Type 0} (g : Ghosts D) (u : Core D) (law : LooksInTree) (page_of_stamp : ℕ → Option PageOfStamp) (tree : Tree) → CoreRepresentsTree g u page_of_stamp tree → (path : List (List ℕ)) → is_too_long path ≡ false
     → (n : ℕ) (at : Spot) → Looks (graph_of (g.shape u.device) (running_of g u)) path (look.At n) → IsOfNode n at → HasNode g u.device u.meta at → IsSpot (g.shape u.device) (running_of g u) page_of_stamp tree path at
 at-node g u law page_of_stamp tree runs path short n (spot.File m rec) looks of has =
     file-there (g.shape u.device) (running_of g u) page_of_stamp tree runs.runs path law short m rec (subst (λ (k : ℕ). Looks (graph_of (g.shape u.device) (running_of g u)) path (look.At k)) (sym of) looks) has.0 has.1
@@ -60,7 +60,7 @@ at-node g u law page_of_stamp tree runs path short n (spot.Lost w f) looks of ha
 at-node g u law page_of_stamp tree runs path short n spot.Fault looks of has = tt
 
 module _ {D : Type 0} (g : Ghosts D) (u v : Core D) (volume : IsVolumeShape (g.shape u.device)) (on : ReadsOn g u v) (tells : g.tells) (page_of_stamp : ℕ → Option PageOfStamp) (tree : Tree)
-    (runs : CoreRuns g u page_of_stamp tree) (path : List (List ℕ)) (n : ℕ) (rec : InodeRec) (answer : Looked) where
+    (runs : CoreRepresentsTree g u page_of_stamp tree) (path : List (List ℕ)) (n : ℕ) (rec : InodeRec) (answer : Looked) where
   pub stat-due : IsSpot (g.shape u.device) (running_of g u) page_of_stamp tree path (spot.File n rec) → IfFile answer (λ size count. (size ≡ rec.size) × (count ≡ length (pointers_of_inode (running_of g v) rec)))
       → IfReplied answer (λ reply. Answers (step (g.shape u.device) tree (Stat path)) reply [])
   stat-due at file = from-file answer (λ reply. Answers (step (g.shape u.device) tree (Stat path)) reply []) (λ size count. (size ≡ rec.size) × (count ≡ length (pointers_of_inode (running_of g v) rec))) file

@@ -2,7 +2,7 @@
 use Rattle.std.proofs.Common.{ℕ, refl}
 use Rattle.nl_tree.specs.declared.reply.Reply.{Reply}
 use Rattle.nl_tree.specs.declared.reply.Reply.TheVariants.{Content, File, Names}
-use Rattle.nl_calls_read.specs.Looking.{IfContent, IfFile, IfNames, IfReplied, IsPlain}
+use Rattle.nl_calls_read.specs.Looking.{IfContent, IfFile, IfNames, IfReplied, IsPlainReply}
 use Rattle.nl_calls_read.specs.declared.answer.Looked.{Looked}
 use Rattle.nl_calls_read.specs.declared.answer.Looked.TheVariants as looked
 
@@ -24,11 +24,11 @@ from-content (looked.Replied reply) P Q R h k f = absurd h
 from-content (looked.Lost w x) P Q R h k f = tt
 from-content looked.Fault P Q R h k f = tt
 
-pub plain-file : (answer : Looked) (Q : ℕ → ℕ → Type 0) → IfFile answer Q → IfReplied answer IsPlain
-plain-file answer Q h = from-file answer IsPlain Q h (λ size pages q. (refl, refl))
+pub plain-file : (answer : Looked) (Q : ℕ → ℕ → Type 0) → IfFile answer Q → IfReplied answer IsPlainReply
+plain-file answer Q h = from-file answer IsPlainReply Q h (λ size pages q. (refl, refl))
 
-pub plain-names : (answer : Looked) (Q : ℕ → Type 0) → IfNames answer Q → IfReplied answer IsPlain
-plain-names answer Q h = from-names answer IsPlain Q h (λ n q. (refl, refl))
+pub plain-names : (answer : Looked) (Q : ℕ → Type 0) → IfNames answer Q → IfReplied answer IsPlainReply
+plain-names answer Q h = from-names answer IsPlainReply Q h (λ n q. (refl, refl))
 
-pub plain-content : (answer : Looked) (Q : Type 0) → IfContent answer Q → IfReplied answer IsPlain
-plain-content answer Q h = from-content answer IsPlain Q Q h h (λ q r. (refl, refl))
+pub plain-content : (answer : Looked) (Q : Type 0) → IfContent answer Q → IfReplied answer IsPlainReply
+plain-content answer Q h = from-content answer IsPlainReply Q Q h h (λ q r. (refl, refl))

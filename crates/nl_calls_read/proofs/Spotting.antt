@@ -17,7 +17,7 @@ use Rattle.nl_namespace.specs.PathLaws.{IsInTree, LooksInTree}
 use Rattle.nl_namespace.specs.Paths.{Looks}
 use Rattle.nl_namespace.specs.declared.answer.Look.{Look}
 use Rattle.nl_namespace.specs.declared.answer.Look.TheVariants as look
-use Rattle.nl_spec_commits.specs.Trees.{RunsAs}
+use Rattle.nl_spec_commits.specs.Trees.{RepresentsTree}
 use Rattle.nl_calls_read.specs.Spots.{IsSpot, refusal_of_path}
 use Rattle.nl_calls_read.specs.declared.answer.Spot.TheVariants as spot
 use Rattle.nl_calls_files.proofs.Directories.{body-is}
@@ -27,7 +27,7 @@ refusal-is : (tree : Tree) (path : List (List ℕ)) (long : Bool) (prefix : Opti
     → refusal_of_path tree path ≡ first_of (when long Enametoolong ∷ prefix ∷ when (is_none there) Enoent ∷ [])
 refusal-is tree path long prefix there a b c = λ i. first_of (when (a i) Enametoolong ∷ b i ∷ when (is_none (c i)) Enoent ∷ [])
 
-module _ (shape : Shape) (pages : VirtualMap) (page_of_stamp : ℕ → Option PageOfStamp) (tree : Tree) (runs : RunsAs shape pages page_of_stamp tree) (path : List (List ℕ)) where
+module _ (shape : Shape) (pages : VirtualMap) (page_of_stamp : ℕ → Option PageOfStamp) (tree : Tree) (runs : RepresentsTree shape pages page_of_stamp tree) (path : List (List ℕ)) where
   pub too-long : is_too_long path ≡ true → IsSpot shape pages page_of_stamp tree path (spot.No Enametoolong)
   too-long long = ap (λ (b : Bool). first_of (when b Enametoolong ∷ prefix_refusal tree path ∷ missing tree path ∷ [])) long
 

@@ -22,23 +22,23 @@ IfReplied (looked.Replied reply) P = P reply
 IfReplied (looked.Lost w f) P = ⊤
 IfReplied looked.Fault P = ⊤
 
-abbrev pub IfLost : Looked → (ℕ → ℕ → Type 0) → Type 0
-IfLost (looked.Replied reply) P = ⊤
-IfLost (looked.Lost w f) P = P w f
-IfLost looked.Fault P = ⊤
+abbrev pub IfLookLost : Looked → (ℕ → ℕ → Type 0) → Type 0
+IfLookLost (looked.Replied reply) P = ⊤
+IfLookLost (looked.Lost w f) P = P w f
+IfLookLost looked.Fault P = ⊤
 
-abbrev pub IsLost : Looked → Type 0
-IsLost (looked.Replied reply) = ⊥
-IsLost (looked.Lost w f) = ⊤
-IsLost looked.Fault = ⊥
+abbrev pub IsLostReply : Looked → Type 0
+IsLostReply (looked.Replied reply) = ⊥
+IsLostReply (looked.Lost w f) = ⊤
+IsLostReply looked.Fault = ⊥
 
 abbrev pub is_synced : Reply → Bool
 is_synced (Synced upto moment) = true
 is_synced _ = false
 
 -- no fault and no sync
-abbrev pub IsPlain : Reply → Type 0
-IsPlain reply = (fault_in reply ≡ None) × (is_synced reply ≡ false)
+abbrev pub IsPlainReply : Reply → Type 0
+IsPlainReply reply = (fault_in reply ≡ None) × (is_synced reply ≡ false)
 
 -- Bytes come with the reply: what was read, or names.
 abbrev pub brings_bytes : Looked → Bool
@@ -50,10 +50,10 @@ brings_bytes _ = false
 
 -- A fault comes of a read that failed, and none failed else. A page is lost only where it has another number than the wanted one, and where
 -- the medium tells its contents none is.
-pub record Ends {D : Type 0} (g : Ghosts D) (old new : D) (answer : Looked) : Type 0 where
+pub record EndsLook {D : Type 0} (g : Ghosts D) (old new : D) (answer : Looked) : Type 0 where
   pub faults : ReadsCounted g (answer ≡ looked.Fault) old new
-  pub lost : IfLost answer (λ w f. f ≡ w → ⊥)
-  pub told : g.tells → IsLost answer → ⊥
+  pub lost : IfLookLost answer (λ w f. f ≡ w → ⊥)
+  pub told : g.tells → IsLostReply answer → ⊥
 
 -- A call that looks replies with a file, with names or with content, unless a read fails.
 abbrev pub IfFile : Looked → (ℕ → ℕ → Type 0) → Type 0

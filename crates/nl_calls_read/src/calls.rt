@@ -4,7 +4,7 @@ ghost use Rattle.nl_tree.specs.Calls.{IsBounded};
 ghost use Rattle.nl_core.specs.Core.{IsCore};
 ghost use Rattle.nl_calls_steps.specs.Steps.{ReadsOn};
 ghost use Rattle.nl_calls_read.specs.Due.{AnswersStep};
-ghost use Rattle.nl_calls_read.specs.Looking.{IfLost, IfReplied, IsLost, IsPlain, OnlyLooks, brings_bytes};
+ghost use Rattle.nl_calls_read.specs.Looking.{IfLookLost, IfReplied, IsLostReply, IsPlainReply, OnlyLooks, brings_bytes};
 
 use crate::answer::Looked;
 use crate::listing::list_path;
@@ -30,11 +30,11 @@ pub fn look_call<D: MovingPages>(
     ensures core { IsCore D.Counts core.new }
     ensures same { ReadsOn D.Counts core.old core.new }
     ensures answer { AnswersStep D.Counts core.old call.now out.new result }
-    ensures plain { IfReplied result IsPlain }
+    ensures plain { IfReplied result IsPlainReply }
     ensures out { brings_bytes result ≡ false → out.new ≡ [] }
     ensures faults { ReadsCounted D.Counts (result ≡ Looked.Fault) core.old.device core.new.device }
-    ensures lost { IfLost result (λ wanted found. found ≡ wanted → ⊥) }
-    ensures told { D.tells → IsLost result → ⊥ }
+    ensures lost { IfLookLost result (λ wanted found. found ≡ wanted → ⊥) }
+    ensures told { D.tells → IsLostReply result → ⊥ }
 {
     match call {
         Call::Read(path, from, len) => read_path(core, path, *from, *len, out, page),

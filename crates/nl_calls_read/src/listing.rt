@@ -5,7 +5,7 @@ ghost use Rattle.nl_tree.specs.declared.call.Call.TheVariants.{List};
 ghost use Rattle.nl_core.specs.Core.{IsCore};
 ghost use Rattle.nl_calls_steps.specs.Steps.{ReadsOn};
 ghost use Rattle.nl_calls_read.specs.Due.{AnswersStep};
-ghost use Rattle.nl_calls_read.specs.Looking.{Ends, IfNames, IfReplied, IsPlain, brings_bytes};
+ghost use Rattle.nl_calls_read.specs.Looking.{EndsLook, IfNames, IfReplied, IsPlainReply, brings_bytes};
 
 use crate::answer::{Looked, Spot};
 use crate::spots::find_spot;
@@ -27,9 +27,9 @@ pub(crate) fn list_path<D: MovingPages>(
     ensures core { IsCore D.Counts core.new }
     ensures same { ReadsOn D.Counts core.old core.new }
     ensures answer { AnswersStep D.Counts core.old (List path.now) out.new result }
-    ensures plain { IfReplied result IsPlain }
+    ensures plain { IfReplied result IsPlainReply }
     ensures out { brings_bytes result ≡ false → out.new ≡ [] }
-    ensures ends { Ends D.Counts core.old.device core.new.device result }
+    ensures ends { EndsLook D.Counts core.old.device core.new.device result }
 {
     device_stands(&core.device);
     match find_spot(core, path) {
@@ -48,7 +48,7 @@ fn list_directory<D: MovingPages>(core: &mut Core<D>, ino: u32, out: &mut ReplyB
     ensures same { ReadsOn D.Counts core.old core.new }
     ensures names { IfNames result (λ n. ListsNames D.Counts core.old.device core.old.meta ino n out.new) }
     ensures out { brings_bytes result ≡ false → out.new ≡ [] }
-    ensures ends { Ends D.Counts core.old.device core.new.device result }
+    ensures ends { EndsLook D.Counts core.old.device core.new.device result }
 {
     match list_names(core, ino, out) {
         Listing::Listed(count) => Looked::Replied(Reply::Names(count)),

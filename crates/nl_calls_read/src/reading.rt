@@ -9,7 +9,7 @@ ghost use Rattle.nl_files.specs.Reading.{AreBytesFrom, file_page};
 ghost use Rattle.nl_calls_files.specs.Fits.{IsFileOf};
 ghost use Rattle.nl_calls_steps.specs.Steps.{ReadsOn};
 ghost use Rattle.nl_calls_read.specs.Due.{AnswersStep};
-ghost use Rattle.nl_calls_read.specs.Looking.{Ends, IfContent, IfReplied, IsPlain, brings_bytes};
+ghost use Rattle.nl_calls_read.specs.Looking.{EndsLook, IfContent, IfReplied, IsPlainReply, brings_bytes};
 ghost use Rattle.nl_calls_read.specs.Pieces.{AddsBytes};
 
 use crate::answer::{Looked, Spot};
@@ -39,9 +39,9 @@ pub(crate) fn read_path<D: MovingPages>(
     ensures core { IsCore D.Counts core.new }
     ensures same { ReadsOn D.Counts core.old core.new }
     ensures answer { AnswersStep D.Counts core.old (Read path.now from len) out.new result }
-    ensures plain { IfReplied result IsPlain }
+    ensures plain { IfReplied result IsPlainReply }
     ensures out { brings_bytes result ≡ false → out.new ≡ [] }
-    ensures ends { Ends D.Counts core.old.device core.new.device result }
+    ensures ends { EndsLook D.Counts core.old.device core.new.device result }
 {
     device_stands(&core.device);
     match find_spot(core, path) {
@@ -83,7 +83,7 @@ fn read_bytes<D: MovingPages>(
     ensures bytes { D.tells
         → IfContent result (AreBytesFrom (file_page D.Counts core.old.device (running_of D.Counts core.old) rec.now) from out.new) }
     ensures out { brings_bytes result ≡ false → out.new ≡ [] }
-    ensures ends { Ends D.Counts core.old.device core.new.device result }
+    ensures ends { EndsLook D.Counts core.old.device core.new.device result }
 {
     let count = bytes_there(rec.size, from, len);
     match read_pieces(core, ino, rec, from, count, out, page) {

@@ -1,6 +1,6 @@
 ghost use Rattle.std.specs.Prelude.{◌≡◌};
-ghost use Rattle.nl_meta_running.specs.Reading.{Reads};
-ghost use Rattle.nl_meta_running.specs.Running.{IsUsed};
+ghost use Rattle.nl_meta_running.specs.Reading.{ReadsExplainStop};
+ghost use Rattle.nl_meta_running.specs.Running.{IsUsedNode};
 ghost use Rattle.nl_core.specs.Core.{IsCore};
 ghost use Rattle.nl_calls_steps.specs.Steps.{ReadsOn};
 ghost use Rattle.nl_calls_read.specs.Due.{FindsSpot};
@@ -24,7 +24,7 @@ pub(crate) fn find_spot<D: MovingPages>(core: &mut Core<D>, path: &Path) -> Spot
     ensures same { ReadsOn D.Counts core.old core.new }
     ensures spot { FindsSpot D.Counts core.old path.now result }
     ensures node { HasNode D.Counts core.new.device core.new.meta result }
-    ensures reads { Reads D.Counts core.old.device core.new.device (spot_stop result) }
+    ensures reads { ReadsExplainStop D.Counts core.old.device core.new.device (spot_stop result) }
 {
     looks_in_tree();
     device_stands(&core.device);
@@ -43,13 +43,13 @@ pub(crate) fn find_spot<D: MovingPages>(core: &mut Core<D>, path: &Path) -> Spot
 /// What a used node is.
 fn open_spot<D: MovingPages>(core: &mut Core<D>, ino: u32) -> Spot
     requires core { IsCore D.Counts core.old }
-    requires used { IsUsed D.Counts core.old.device core.old.meta ino }
+    requires used { IsUsedNode D.Counts core.old.device core.old.meta ino }
     ensures core { IsCore D.Counts core.new }
     ensures same { ReadsOn D.Counts core.old core.new }
     ensures ino { IsOfNode ino result }
     ensures was { HasNode D.Counts core.old.device core.old.meta result }
     ensures node { HasNode D.Counts core.new.device core.new.meta result }
-    ensures reads { Reads D.Counts core.old.device core.new.device (spot_stop result) }
+    ensures reads { ReadsExplainStop D.Counts core.old.device core.new.device (spot_stop result) }
 {
     match open_node(core, ino) {
         Ok(rec) => match rec.kind {

@@ -5,7 +5,7 @@ ghost use Rattle.nl_core.specs.Core.{IsCore, running_of};
 ghost use Rattle.nl_calls_files.specs.Fits.{IsFileOf};
 ghost use Rattle.nl_calls_steps.specs.Steps.{ReadsOn};
 ghost use Rattle.nl_calls_read.specs.Due.{AnswersStep};
-ghost use Rattle.nl_calls_read.specs.Looking.{Ends, IfFile, IfReplied, IsPlain};
+ghost use Rattle.nl_calls_read.specs.Looking.{EndsLook, IfFile, IfReplied, IsPlainReply};
 
 use crate::answer::{Looked, Spot};
 use crate::spots::find_spot;
@@ -23,8 +23,8 @@ pub(crate) fn stat_path<D: MovingPages>(core: &mut Core<D>, path: &Path) -> Look
     ensures core { IsCore D.Counts core.new }
     ensures same { ReadsOn D.Counts core.old core.new }
     ensures answer { AnswersStep D.Counts core.old (Stat path.now) [] result }
-    ensures plain { IfReplied result IsPlain }
-    ensures ends { Ends D.Counts core.old.device core.new.device result }
+    ensures plain { IfReplied result IsPlainReply }
+    ensures ends { EndsLook D.Counts core.old.device core.new.device result }
 {
     device_stands(&core.device);
     match find_spot(core, path) {
@@ -54,7 +54,7 @@ fn stat_file<D: MovingPages>(core: &mut Core<D>, rec: &InodeRec) -> Looked
     ensures same { ReadsOn D.Counts core.old core.new }
     ensures file { IfFile result (λ size pages.
         (size ≡ rec.now.size) × (pages ≡ length (pointers_of_inode (running_of D.Counts core.old) rec.now))) }
-    ensures ends { Ends D.Counts core.old.device core.new.device result }
+    ensures ends { EndsLook D.Counts core.old.device core.new.device result }
 {
     match count_file(core, rec) {
         CountPages::Pages(pages) => Looked::Replied(Reply::File {

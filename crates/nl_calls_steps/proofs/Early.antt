@@ -1,7 +1,7 @@
 -- How parts of a call end early, one after the other.
 use Rattle.std.proofs.Common.{inl, inr, ◌≤◌, Option, Some, None, arith}
 use Rattle.nl_iface.specs.declared.counts.Counts.{Ghosts}
-use Rattle.nl_meta_running.specs.Reading.{Reads}
+use Rattle.nl_meta_running.specs.Reading.{ReadsExplainStop}
 use Rattle.nl_meta_running.specs.declared.answer.Stop.{Stop}
 use Rattle.nl_meta_running.specs.declared.answer.Stop.TheVariants as stop
 use Rattle.nl_core.specs.declared.state.Core.{Core}
@@ -9,7 +9,7 @@ use Rattle.nl_calls_steps.specs.Steps.{ReadsOn}
 use Rattle.nl_calls_steps.specs.Answers.{EndsEarly}
 
 -- a read
-pub read-early : {D : Type 0} (g : Ghosts D) (old new : Core D) (o : Option Stop) → Reads g old.device new.device o → EndsEarly g old new o
+pub read-early : {D : Type 0} (g : Ghosts D) (old new : Core D) (o : Option Stop) → ReadsExplainStop g old.device new.device o → EndsEarly g old new o
 read-early g old new None r = tt
 read-early g old new (Some stop.Fault) r = inl (r.cause tt)
 read-early g old new (Some (stop.Lost w f)) r = (r.2, r.3)

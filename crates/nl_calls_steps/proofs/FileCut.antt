@@ -29,7 +29,7 @@ use Rattle.nl_iface.specs.declared.counts.Counts.{Ghosts}
 use Rattle.nl_spec_holders.specs.Lists.{ListLoses}
 use Rattle.nl_inode.specs.Nodes.{Spaces, page_of_node}
 use Rattle.nl_indirect.specs.Ranges.{HasRange, IsFileRecord, address_of}
-use Rattle.nl_indirect.specs.Storing.{Begins}
+use Rattle.nl_indirect.specs.Storing.{BeginsRange}
 use Rattle.nl_indirect.proofs.Pointing.{address-range, in-range, no-page}
 use Rattle.nl_meta.specs.Committed.{VirtualMap}
 use Rattle.nl_meta.specs.Consistent.{PageOfStamp}
@@ -37,7 +37,7 @@ use Rattle.nl_meta.specs.Nodes.{graph_of, is_physical_name, pointer_at}
 use Rattle.nl_meta.specs.Pages.{Pages, page_of}
 use Rattle.nl_meta.specs.PointerLists.{IsFile, tagged_by, tagged_in}
 use Rattle.nl_meta.proofs.PageProofs.{both, loaded, none}
-use Rattle.nl_meta_running.specs.Running.{RunsOn, running_on}
+use Rattle.nl_meta_running.specs.Running.{PreservesRunning, running_on}
 use Rattle.nl_meta_running.proofs.GraphStays.{graph-same}
 use Rattle.nl_meta_running.proofs.Holds.{bounds-of, reads-none}
 use Rattle.nl_meta_running.proofs.Kept.{loads-on, used-on}
@@ -52,15 +52,15 @@ use Rattle.nl_files.proofs.LawProofs.{files_stand_on}
 use Rattle.nl_files.proofs.OneFile.{is-used}
 use Rattle.nl_spec_commits.specs.FileCuts.{pointers_behind}
 use Rattle.nl_spec_commits.specs.Held.{IsHeldVolume}
-use Rattle.nl_spec_commits.specs.Trees.{RunsAs}
+use Rattle.nl_spec_commits.specs.Trees.{RepresentsTree}
 use Rattle.nl_spec_commits.proofs.FileLists.{all_of, behind_is, file_there, node_changes, plain_there, split, there}
 use Rattle.nl_core.specs.Core.{IsCore, running_of}
 use Rattle.nl_core.specs.declared.state.Core.{Core}
 use Rattle.nl_calls_files.specs.Cutting.{CutsTo}
 use Rattle.nl_calls_files.specs.FileRuns.{EndsClean, EndsWith, IsPageAt}
-use Rattle.nl_calls_files.specs.FileTrees.{HasPages, held_content}
+use Rattle.nl_calls_files.specs.FileTrees.{FileHasPages, held_content}
 use Rattle.nl_calls_files.specs.Fits.{IsFileOf}
-use Rattle.nl_calls_files.specs.Holders.{HoldsOn, LosesGiven, cut_off}
+use Rattle.nl_calls_files.specs.Holders.{KeepsVolumeHeld, LosesGiven, cut_off}
 use Rattle.nl_calls_files.specs.Landing.{landed}
 use Rattle.nl_calls_files.proofs.CutContents.{Replaces, content_cut, cut_behind}
 use Rattle.nl_calls_files.proofs.FileRunning.{cut_has_pages, file_has_pages, file_runs_on, held_lead_once}
@@ -68,7 +68,7 @@ use Rattle.nl_calls_files.proofs.FileTrees.{file_at}
 use Rattle.nl_calls_files.proofs.Fits.{is_file_at, reads_run, stands}
 use Rattle.nl_calls_files.proofs.Holders.{cutting_holds, stamp_some}
 use Rattle.nl_calls_files.proofs.Landing.{pages_land}
-use Rattle.nl_calls_steps.specs.Installing.{IsAtHand, with_landed}
+use Rattle.nl_calls_steps.specs.Installing.{FilePointerIsResident, with_landed}
 use Rattle.nl_calls_steps.specs.Lines.{worker_pages}
 use Rattle.nl_calls_steps.specs.Steps.{IsHeldAfter, Steps}
 use Rattle.nl_calls_steps.specs.Truncating.{AreCut, CutsFileTo, HasPartial, IsPartialPage}
@@ -85,7 +85,7 @@ span_same a b rec from count same = ap (filter (λ p. not (is_none_pointer p))) 
     mapped (x ∷ xs) = λ i. same x i ∷ mapped xs i
 
 -- an index that has a pointer has a page for it
-pub begins_none : (pages : VirtualMap) (rec : InodeRec) (index : ℕ) (to : Pointer) → is_none_pointer (pointer_at pages rec index) ≡ false → Begins rec index (Some to) → ⊥
+pub begins_none : (pages : VirtualMap) (rec : InodeRec) (index : ℕ) (to : Pointer) → is_none_pointer (pointer_at pages rec index) ≡ false → BeginsRange rec index (Some to) → ⊥
 begins_none pages rec index to some b =
     let none = in-range pages rec index b.in_range ∙ no-page pages _ _ (sym (address-range rec index b.in_range) ∙ b.no_page) in
     both_ways (is_none_pointer (pointer_at pages rec index)) some (ap is_none_pointer none)
@@ -148,14 +148,14 @@ module _ {D : Type 0} (g : Ghosts D) (v : Core D) (worker n size : ℕ) (was : I
       let all = ap length (pages_land v.flight worker lines known).first in
       omega (arith, lost, all)
 
-module _ {D : Type 0} (g : Ghosts D) (v : Core D) (d : D) (half : Pages) (n size : ℕ) (was : InodeRec) (core : IsCore g v) (hand : IsAtHand g v n (size / 4096) was)
+module _ {D : Type 0} (g : Ghosts D) (v : Core D) (d : D) (half : Pages) (n size : ℕ) (was : InodeRec) (core : IsCore g v) (hand : FilePointerIsResident g v n (size / 4096) was)
     (volume : IsVolumeShape (g.shape v.device)) (volume_d : IsVolumeShape (g.shape d)) (formed : g.formed d) (stores : g.tells → StoresPages g d) (reads : OnlyReads g v.device d) (keeps : KeepsRunning g v.device v.meta half) (own : LoadsOwn was v.meta half)
     (faults : g.read_faults v.device ≤ g.read_faults d) where
   -- the core of which pages were read
   abbrev pub read : Core D
   read = record v { device = d; meta = half }
 
-  pub runs : RunsOn g v.device v.meta d half
+  pub runs : PreservesRunning g v.device v.meta d half
   runs = reads_run g v.device d v.meta half n was core.journaled.runs hand.file reads keeps own
 
   pub read_core : IsCore g read
@@ -259,7 +259,7 @@ module _ {D : Type 0} (g : Ghosts D) (v : Core D) (d : D) (half : Pages) (n size
       pub ran : RunsCut g d n size partial was is half m v.nodes s
       ran = cut_runs g d n size partial was is half cuts.between m v.nodes s volume_d read_core.journaled.runs on
 
-      holds : HoldsOn g d v.journal half m flight later v.freeing.items gone
+      holds : KeepsVolumeHeld g d v.journal half m flight later v.freeing.items gone
       holds = cutting_holds g d v.journal flight later v.freeing.items n size partial was is half cuts.between m v.nodes s volume_d read_core.journaled begun_read.held on (partial_right g v worker n size was core.flight known partial of) given
 
       awaits : f.items ≡ v.freeing.items ++ gone
@@ -328,9 +328,9 @@ module _ {D : Type 0} (g : Ghosts D) (v : Core D) (d : D) (half : Pages) (n size
       record_before : IsFileRecord was
       record_before = (stands g v.device v.meta n was core.journaled.runs hand.file).file
 
-      module _ (page_of_stamp : ℕ → Option PageOfStamp) (tree : Tree) (path : List (List ℕ)) (stood : RunsAs (g.shape v.device) (running_of g v) page_of_stamp tree)
+      module _ (page_of_stamp : ℕ → Option PageOfStamp) (tree : Tree) (path : List (List ℕ)) (stood : RepresentsTree (g.shape v.device) (running_of g v) page_of_stamp tree)
           (leads : node_reached (graph_of (g.shape v.device) (running_of g v)) 0 path ≡ Some n) (shows : AreCut page_of_stamp (content_of (node_at tree path)) size (worker_pages v worker)) where
-        stood_read : RunsAs (g.shape d) before page_of_stamp tree
+        stood_read : RepresentsTree (g.shape d) before page_of_stamp tree
         stood_read = (read_alike g v read volume formed stores (read_on g v d half runs faults)).trees page_of_stamp tree stood
 
         leads_read : node_reached (graph_of (g.shape d) before) 0 path ≡ Some n
@@ -396,10 +396,10 @@ module _ {D : Type 0} (g : Ghosts D) (v : Core D) (d : D) (half : Pages) (n size
         ends None p = ⊎_elim (λ longer. inl longer) (λ other. ⊎_elim (λ full. inr (inl full)) (λ gone_. inr (inr (ap is_none_pointer (same_pointers (size / 4096)) ∙ gone_))) other) p.1
         ends (Some to) p = (p.2.within, is_there to p)
 
-        pages_after : HasPages after page_of_stamp n is
+        pages_after : FileHasPages after page_of_stamp n is
         pages_after = cut_has_pages (g.shape d) page_of_stamp n size partial was is before after v.nodes s stood_read.right file_before ran.cut cuts.cuts.sized (ends partial of)
 
-        runs_cut : RunsAs (g.shape d) after page_of_stamp (with_content tree path (held_content page_of_stamp after is))
+        runs_cut : RepresentsTree (g.shape d) after page_of_stamp (with_content tree path (held_content page_of_stamp after is))
         runs_cut = file_runs_on (g.shape d) before after page_of_stamp (g.names d) n was is path tree stood_read (record {
           right = record { nodes = ran.runs.nodes; addresses = ran.runs.addresses; entries = ran.runs.entries };
           file_before = file_before;
@@ -411,8 +411,8 @@ module _ {D : Type 0} (g : Ghosts D) (v : Core D) (d : D) (half : Pages) (n size
           leads = leads_read;
         })
 
-        stands_cut : RunsAs (g.shape d) after page_of_stamp (with_content tree path (cut_to (content_of (node_at tree path)) size))
-        stands_cut = subst (λ (c : FileContent). RunsAs (g.shape d) after page_of_stamp (with_content tree path c))
+        stands_cut : RepresentsTree (g.shape d) after page_of_stamp (with_content tree path (cut_to (content_of (node_at tree path)) size))
+        stands_cut = subst (λ (c : FileContent). RepresentsTree (g.shape d) after page_of_stamp (with_content tree path c))
             (content_cut page_of_stamp (g.shape d) n size partial was is before after v.nodes s record_before cuts.cuts.file cuts.cuts.sized ran.cut pages_after (replaces partial of) ∙ ap (λ (c : FileContent). cut_to c size) (sym content_before))
             runs_cut
 

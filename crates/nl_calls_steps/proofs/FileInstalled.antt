@@ -31,7 +31,7 @@ use Rattle.nl_meta_running.specs.Running.{running_on, stored_on}
 use Rattle.nl_meta_running.proofs.Holds.{bounds-of, reads-none}
 use Rattle.nl_files.specs.InstallLaws.{FileIsInstalled}
 use Rattle.nl_files.specs.InstalledRuns.{InstallsOn, RunsInstalled}
-use Rattle.nl_files.specs.Installing.{FreeAreNew, Takes}
+use Rattle.nl_files.specs.Installing.{FreeAreNewToFile, TakesLeastAddress}
 use Rattle.nl_files.specs.Spans.{as_list}
 use Rattle.nl_files.specs.Standing.{tag_of}
 use Rattle.nl_files.proofs.InstalledOn.{installed_runs}
@@ -43,18 +43,18 @@ use Rattle.nl_spec_commits.specs.Held.{IsHeldVolume}
 use Rattle.nl_core.specs.Core.{IsCore, names_of, running_of}
 use Rattle.nl_core.specs.declared.state.Core.{Core}
 use Rattle.nl_calls_files.specs.Fits.{IsFileOf}
-use Rattle.nl_calls_files.specs.Holders.{HoldsOn}
+use Rattle.nl_calls_files.specs.Holders.{KeepsVolumeHeld}
 use Rattle.nl_calls_files.specs.Landing.{landed}
 use Rattle.nl_calls_files.specs.Taking.{TakesPage}
 use Rattle.nl_calls_files.proofs.Fits.{free_file_pages, stands}
 use Rattle.nl_calls_files.proofs.Holders.{installing_holds}
 use Rattle.nl_calls_files.proofs.Landing.{pages_land}
-use Rattle.nl_calls_steps.specs.Installing.{HasRoom, InstallsPage, IsAtHand, IsPageOfFile, with_landed}
+use Rattle.nl_calls_steps.specs.Installing.{HasRoomToInstall, InstallsPage, FilePointerIsResident, IsPageOfFile, with_landed}
 use Rattle.nl_calls_steps.specs.Steps.{IsHeldAfter, Steps}
 use Rattle.nl_calls_steps.proofs.Stepping.{stepped_core}
 
 -- what a pointer in the place of another leaves of the free addresses
-same_counts : (fresh : Option ℕ) (s t : Spaces) → Takes fresh s t → (length t.nodes ≡ length s.nodes) × (length t.pool ≡ length s.pool)
+same_counts : (fresh : Option ℕ) (s t : Spaces) → TakesLeastAddress fresh s t → (length t.nodes ≡ length s.nodes) × (length t.pool ≡ length s.pool)
 same_counts None s t same = (ap (λ (x : Spaces). length x.nodes) same, ap (λ (x : Spaces). length x.pool) same)
 same_counts (Some a) s t taken = (ap length taken.1.nodes, taken.1.pool.count)
 
@@ -94,7 +94,7 @@ module _ {D : Type 0} (g : Ghosts D) (v : Core D) (core : IsCore g v) (volume : 
 -- ---- a page in flight is installed
 
 module _ {D : Type 0} (g : Ghosts D) (v : Core D) (worker k n size : ℕ) (page : FlightPage) (was is : InodeRec) (m : Pages) (s : Spaces) (f : PointerItems) (core : IsCore g (with_landed v worker k)) (lines : IsFlight v.flight)
-    (known : worker < 8) (at : slice_get (of_worker v.flight worker).pages k ≡ Some page) (hand : IsAtHand g v n page.index was) (of : IsPageOfFile g v n was page) (room : HasRoom g v n was page) (volume : IsVolumeShape (g.shape v.device)) where
+    (known : worker < 8) (at : slice_get (of_worker v.flight worker).pages k ≡ Some page) (hand : FilePointerIsResident g v n page.index was) (of : IsPageOfFile g v n was page) (room : HasRoomToInstall g v n was page) (volume : IsVolumeShape (g.shape v.device)) where
   -- what is in flight before, and after
   abbrev flight : List (Tag × Pointer)
   flight = carried (landed v.flight worker k)
@@ -110,7 +110,7 @@ module _ {D : Type 0} (g : Ghosts D) (v : Core D) (worker k n size : ℕ) (page 
   pub file_record : IsFileRecord was
   file_record = (stands g v.device v.meta n was core.journaled.runs hand.file).file
 
-  pub new_pages : FreeAreNew v.nodes v.meta was
+  pub new_pages : FreeAreNewToFile v.nodes v.meta was
   new_pages = free_file_pages g v.device v.meta v.nodes n was volume core.journaled.runs hand.file core.free.pool core.free.count_pool (let most = room.dirty in omega (arith, most))
 
   module _ (names : IsNames (g.shape v.device) (g.next_stamp v.device) (names_of g v)) where
@@ -154,7 +154,7 @@ module _ {D : Type 0} (g : Ghosts D) (v : Core D) (worker k n size : ℕ) (page 
     installed : FileIsInstalled (g.shape v.device) n page.index page.at was is (running_of g v) (running_on g v.device m) v.nodes s
     installed = subst (λ (r : InodeRec). FileIsInstalled (g.shape v.device) n page.index page.at was r (running_of g v) (running_on g v.device m) v.nodes s) (sym taken.sized) ran.installed
 
-    holds : HoldsOn g v.device v.journal v.meta m flight later v.freeing.items (as_list before)
+    holds : KeepsVolumeHeld g v.device v.journal v.meta m flight later v.freeing.items (as_list before)
     holds = installing_holds g v.device v.journal flight later v.freeing.items n page.index size page.at was taken.installed v.meta taken.between m v.nodes s volume core.journaled core.held on lost
 
     step : Steps g v w

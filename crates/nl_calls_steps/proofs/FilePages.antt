@@ -17,7 +17,7 @@ use Rattle.nl_files.specs.Reading.{AreBytesFrom, file_page}
 use Rattle.nl_files.proofs.ContentFacts.{pages_by_pointers}
 use Rattle.nl_flight.specs.Flight.{carried}
 use Rattle.nl_core.specs.Core.{IsCore, names_of, running_of}
-use Rattle.nl_core.specs.Trees.{CoreRuns}
+use Rattle.nl_core.specs.Trees.{CoreRepresentsTree}
 use Rattle.nl_core.specs.declared.state.Core.{Core}
 use Rattle.nl_calls_files.specs.FileTrees.{held_content}
 use Rattle.nl_calls_files.specs.Fits.{IsFileOf}
@@ -25,15 +25,15 @@ use Rattle.nl_calls_files.proofs.FileTrees.{file_at}
 use Rattle.nl_calls_files.proofs.Fits.{files_lead, files_stand, is_file_at}
 use Rattle.nl_calls_files.proofs.Joined.{joined}
 use Rattle.nl_calls_steps.specs.Finding.{nodes_of}
-use Rattle.nl_calls_steps.specs.Paging.{HasPage}
+use Rattle.nl_calls_steps.specs.Paging.{ArePageBytes}
 
 module _ {D : Type 0} (g : Ghosts D) (v : Core D) (page_of_stamp : ℕ → Option PageOfStamp) (tree : Tree) (n : ℕ) (rec : InodeRec) (is : IsFileOf g v.device v.meta n rec) where
   -- the tree has it where a path leads to the file
-  pub at-path : CoreRuns g v page_of_stamp tree → (path : List (List ℕ)) → node_reached (nodes_of g v) 0 path ≡ Some n → node_at tree path ≡ Some (file (held_content page_of_stamp (running_of g v) rec))
+  pub at-path : CoreRepresentsTree g v page_of_stamp tree → (path : List (List ℕ)) → node_reached (nodes_of g v) 0 path ≡ Some n → node_at tree path ≡ Some (file (held_content page_of_stamp (running_of g v) rec))
   at-path at path reached =
       file_at (g.shape v.device) (running_of g v) page_of_stamp n rec path tree (is_file_at (g.shape v.device) (running_of g v) n rec at.runs.right.tree.addresses is.is_node is.is_file) reached at.runs.represents
 
-  module _ (core : IsCore g v) (at : CoreRuns g v page_of_stamp tree) where
+  module _ (core : IsCore g v) (at : CoreRepresentsTree g v page_of_stamp tree) where
     -- the page of a pointer is the live page to which it leads
     bytes-at : (i : ℕ) → i < 4104 → is_none_pointer (pointer_at (running_of g v) rec i) ≡ false
         → g.bytes v.device (place_of (names_of g v) (pointer_at (running_of g v) rec i)) ≡ bytes_for page_of_stamp (pointer_at (running_of g v) rec i).stamp
@@ -63,7 +63,7 @@ module _ {D : Type 0} (g : Ghosts D) (v : Core D) (page_of_stamp : ℕ → Optio
 module _ {D : Type 0} (g : Ghosts D) (v : Core D) (core : IsCore g v) (n index : ℕ) (rec : InodeRec) (is : IsFileOf g v.device v.meta n rec) (low : index < 4104) (at held : ℕ) (head rest : List ℕ)
     (held_is : held ≡ min (rec.size - 4096 * index) 4096) (at_is : 0 < held → at ≡ 4096 * index) (len : length head ≡ held) (zeros_rest : rest ≡ zeros 4096)
     (are : g.tells → AreBytesFrom (file_page g v.device (running_of g v) rec) at head) where
-  module _ (tells : g.tells) (page_of_stamp : ℕ → Option PageOfStamp) (tree : Tree) (path : List (List ℕ)) (runs : CoreRuns g v page_of_stamp tree) (reached : node_reached (nodes_of g v) 0 path ≡ Some n) where
+  module _ (tells : g.tells) (page_of_stamp : ℕ → Option PageOfStamp) (tree : Tree) (path : List (List ℕ)) (runs : CoreRepresentsTree g v page_of_stamp tree) (reached : node_reached (nodes_of g v) 0 path ≡ Some n) where
     abbrev content : FileContent
     content = held_content page_of_stamp (running_of g v) rec
 
@@ -83,5 +83,5 @@ module _ {D : Type 0} (g : Ghosts D) (v : Core D) (core : IsCore g v) (n index :
         joined content index held head rest (runs.runs.represents.is_tree.contents path content there) held_is len first zeros_rest
         ∙ sym (ap (λ (o : Option Node). page_bytes (content_of o) index) there)
 
-  pub has-page : HasPage g v n index (head ++ drop held rest)
+  pub has-page : ArePageBytes g v n index (head ++ drop held rest)
   has-page = λ tells page_of_stamp tree path runs reached. whole tells page_of_stamp tree path runs reached

@@ -17,10 +17,10 @@ use Rattle.nl_meta.specs.Nodes.{body_of, graph_of}
 use Rattle.nl_meta.specs.PointerLists.{tagged_in}
 use Rattle.nl_spec_image.proofs.GraphOfPages.{NodeOf, node_is, node_or_none}
 use Rattle.nl_core.specs.Core.{running_of}
-use Rattle.nl_core.specs.Goes.{Goes}
+use Rattle.nl_core.specs.Goes.{PreservesVolume}
 use Rattle.nl_core.specs.declared.state.Core.{Core}
 use Rattle.nl_core.proofs.Renamed.{as_many}
-use Rattle.nl_calls_steps.specs.Calls.{HasPagesOfFiles, OthersStay}
+use Rattle.nl_calls_steps.specs.Calls.{HasPagesOfFiles, OtherLinesStay}
 use Rattle.nl_calls_steps.specs.Finding.{IsOfGeneration, IsSomeFile, nodes_of}
 
 -- ---- paths
@@ -82,7 +82,7 @@ module _ (s t : Shape) (old new : VirtualMap) (same : SameButNames (graph_of s o
 
 -- ---- a core that goes on
 
-module _ {D : Type 0} (g : Ghosts D) (m : ℕ) (u v : Core D) (a : Goes g m u v) where
+module _ {D : Type 0} (g : Ghosts D) (m : ℕ) (u v : Core D) (a : PreservesVolume g m u v) where
   pub leads_on : (path : List (List ℕ)) (n : ℕ) → node_reached (nodes_of g u) 0 path ≡ Some n → node_reached (nodes_of g v) 0 path ≡ Some n
   leads_on path n e = reached_stays (nodes_of g u) (nodes_of g v) a.nodes path 0 ∙ e
 
@@ -101,11 +101,11 @@ module _ {D : Type 0} (g : Ghosts D) (m : ℕ) (u v : Core D) (a : Goes g m u v)
 
 -- ---- lines of others
 
-pub others_none : (worker : ℕ) (a : List InFlight) → OthersStay worker a a
+pub others_none : (worker : ℕ) (a : List InFlight) → OtherLinesStay worker a a
 others_none worker a = λ w far. refl
 
-pub others_same : (worker : ℕ) (a b : List InFlight) → b ≡ a → OthersStay worker a b
+pub others_same : (worker : ℕ) (a b : List InFlight) → b ≡ a → OtherLinesStay worker a b
 others_same worker a b e = λ w far. ap (λ (xs : List InFlight). nameless_line (of_worker xs w)) e
 
-pub others_then : (worker : ℕ) (a b c : List InFlight) → OthersStay worker a b → OthersStay worker b c → OthersStay worker a c
+pub others_then : (worker : ℕ) (a b c : List InFlight) → OtherLinesStay worker a b → OtherLinesStay worker b c → OtherLinesStay worker a c
 others_then worker a b c f h = λ w far. h w far ∙ f w far

@@ -10,9 +10,9 @@ use Rattle.nl_journal.specs.Progress.{begun}
 use Rattle.nl_meta.specs.Consistent.{PageOfStamp}
 use Rattle.nl_meta.specs.Nodes.{graph_of}
 use Rattle.nl_journal_commit.proofs.Paid.{paid_same}
-use Rattle.nl_spec_commits.specs.Trees.{RunsAs}
+use Rattle.nl_spec_commits.specs.Trees.{RepresentsTree}
 use Rattle.nl_core.specs.Core.{IsCore, begun_of, running_of}
-use Rattle.nl_core.specs.Goes.{Goes}
+use Rattle.nl_core.specs.Goes.{PreservesVolume}
 use Rattle.nl_core.specs.declared.state.Core.{Core}
 use Rattle.nl_core.proofs.Running.{with_none}
 use Rattle.nl_calls_steps.specs.Steps.{ReadAlike, ReadsOn, Steps}
@@ -20,14 +20,14 @@ use Rattle.nl_calls_steps.proofs.Stepping.{read_alike, steps_go, steps_leave, st
 use Rattle.nl_calls_steps.proofs.OnlyReads.{same-nodes}
 
 module _ {D : Type 0} (g : Ghosts D) (v w : Core D) (core : IsCore g v) (volume : IsVolumeShape (g.shape v.device)) (step : Steps g v w) (graph : graph_of (g.shape w.device) (running_of g w) ≡ graph_of (g.shape v.device) (running_of g v))
-    (alike : (page_of_stamp : ℕ → Option PageOfStamp) (tree : Tree) → RunsAs (g.shape v.device) (running_of g v) page_of_stamp tree → RunsAs (g.shape w.device) (running_of g w) page_of_stamp tree) where
+    (alike : (page_of_stamp : ℕ → Option PageOfStamp) (tree : Tree) → RepresentsTree (g.shape v.device) (running_of g v) page_of_stamp tree → RepresentsTree (g.shape w.device) (running_of g w) page_of_stamp tree) where
   same_begun : begun_of w ≡ begun_of v
   same_begun = λ i. begun (ap (λ (x : Core D). x.journal) step.others i) (length (step.pages.same_frozen i).addresses)
 
   same_stopped : w.stopped ≡ v.stopped
   same_stopped = ap (λ (x : Core D). x.stopped) step.others
 
-  pub step_goes : Goes g 0 v w
+  pub step_goes : PreservesVolume g 0 v w
   step_goes =
       let m = step.reads.medium in
       let clock = m.clock in
@@ -70,5 +70,5 @@ module _ {D : Type 0} (g : Ghosts D) (v w : Core D) (core : IsCore g v) (volume 
   same_graph : graph_of (g.shape w.device) (running_of g w) ≡ graph_of (g.shape v.device) (running_of g v)
   same_graph = same-nodes g v w volume r
 
-  pub reads_go : Goes g 0 v w
+  pub reads_go : PreservesVolume g 0 v w
   reads_go = step_goes g v w core volume as_before.steps same_graph as_before.trees

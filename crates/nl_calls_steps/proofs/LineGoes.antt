@@ -21,13 +21,13 @@ use Rattle.nl_iface.specs.declared.counts.Counts.{Ghosts}
 use Rattle.nl_inode.specs.Nodes.{Spaces, page_of_node}
 use Rattle.nl_indirect.specs.Ranges.{HasRange, IsFileRecord}
 use Rattle.nl_meta.specs.Committed.{VirtualMap}
-use Rattle.nl_meta.specs.Consistent.{IsThere, PageOfStamp, RightFor}
+use Rattle.nl_meta.specs.Consistent.{PointerIsThere, PageOfStamp, RightFor}
 use Rattle.nl_meta.specs.Nodes.{graph_of, pointer_at}
 use Rattle.nl_meta.specs.Pages.{Pages, most, page_of}
 use Rattle.nl_meta.specs.PointerLists.{IsFile, shown, tagged_in}
 use Rattle.nl_meta.proofs.PageProofs.{none}
 use Rattle.nl_meta.proofs.PointerListProofs.{one_pointer_changes}
-use Rattle.nl_meta_running.specs.Running.{Runs, running_on}
+use Rattle.nl_meta_running.specs.Running.{RunningIsRight, running_on}
 use Rattle.nl_meta_running.proofs.Holds.{reads-none}
 use Rattle.nl_files.specs.Contents.{content_of}
 use Rattle.nl_files.specs.InstallLaws.{FileIsInstalled}
@@ -36,7 +36,7 @@ use Rattle.nl_journal_commit.specs.Holding.{running_holders}
 use Rattle.nl_core.specs.Core.{IsCore, running_of}
 use Rattle.nl_core.specs.declared.state.Core.{Core}
 use Rattle.nl_calls_files.specs.FileRuns.{IsPageAt}
-use Rattle.nl_calls_files.specs.FileTrees.{HasPages}
+use Rattle.nl_calls_files.specs.FileTrees.{FileHasPages}
 use Rattle.nl_calls_files.specs.Fits.{IsFileOf}
 use Rattle.nl_calls_files.specs.Landing.{landed}
 use Rattle.nl_calls_files.specs.LineNeeds.{free_addresses, new_pointers, new_ranges}
@@ -49,7 +49,7 @@ use Rattle.nl_calls_files.proofs.Holders.{changed_size, stamp_some}
 use Rattle.nl_calls_files.proofs.Landing.{pages_land}
 use Rattle.nl_calls_files.proofs.LineContents.{page_put}
 use Rattle.nl_calls_files.proofs.LineRoom.{Lies, few_reserved, has_free, lies, pool_on, reserved, reserved_falls, room_to_take}
-use Rattle.nl_calls_steps.specs.Installing.{HasRoom, InstallsPage, IsAtHand, IsPageOfFile, page_in, with_landed}
+use Rattle.nl_calls_steps.specs.Installing.{HasRoomToInstall, InstallsPage, FilePointerIsResident, IsPageOfFile, page_in, with_landed}
 use Rattle.nl_calls_steps.specs.Lines.{HasRoomForLine, IsLineOfFile, IsPageOfLine, worker_pages}
 use Rattle.nl_calls_steps.specs.Steps.{Steps}
 use Rattle.nl_calls_steps.proofs.LineEnds.{other_lines}
@@ -75,7 +75,7 @@ pub record LineAt {D : Type 0} (g : Ghosts D) (v : Core D) (worker n size first 
   pub shorter : is.size ≤ size
   pub sized : 0 < k → is.size ≡ size
   pub others : (j : ℕ) → j ≢ n → graph_of (g.shape v.device) (running_on g v.device m) j ≡ graph_of (g.shape v.device) (running_of g v) j
-  pub pages : (page_of_stamp : ℕ → Option PageOfStamp) → RightFor (g.shape v.device) (running_of g v) page_of_stamp → AreThere page_of_stamp size (worker_pages v worker) → HasPages (running_on g v.device m) page_of_stamp n is
+  pub pages : (page_of_stamp : ℕ → Option PageOfStamp) → RightFor (g.shape v.device) (running_of g v) page_of_stamp → AreThere page_of_stamp size (worker_pages v worker) → FileHasPages (running_on g v.device m) page_of_stamp n is
   pub content : (bytes_of : ℕ → List ℕ) → (content_of bytes_of (running_on g v.device m) is).pages
       ≡ fold (with_page bytes_of) (content_of bytes_of (running_of g v) was).pages (take k (worker_pages v worker))
   pub dirty : reserved m is n first < most
@@ -167,7 +167,7 @@ module _ {D : Type 0} (g : Ghosts D) (v : Core D) (worker n size first : ℕ) (w
 
   -- ---- it can be taken
 
-  pub hand : IsAtHand g (now v m s f) n page.index is
+  pub hand : FilePointerIsResident g (now v m s f) n page.index is
   hand = record { file = at.file; there = at.there; range = at.ranges page.index of.range }
 
   tag_is : page.tag ≡ tag_of n is page.index
@@ -176,7 +176,7 @@ module _ {D : Type 0} (g : Ghosts D) (v : Core D) (worker n size first : ℕ) (w
   pub page_of_file : IsPageOfFile g (now v m s f) n is page
   page_of_file = record { tag = tag_is; within = of.of_file.within; spelled = of.of_file.spelled; physical = of.of_file.physical }
 
-  pub room_for : HasRoom g (now v m s f) n is page
+  pub room_for : HasRoomToInstall g (now v m s f) n is page
   room_for = record {
     dirty = room_to_take m is n first page.index at.dirty lies_near;
     pool = has_free is page.index page.at rest s of.of_file.within within_ranges;
@@ -196,7 +196,7 @@ module _ {D : Type 0} (g : Ghosts D) (v : Core D) (worker n size first : ℕ) (w
     abbrev after : VirtualMap
     after = running_on g v.device m'
 
-    runs : Runs g v.device m
+    runs : RunningIsRight g v.device m
     runs = at.core.journaled.runs
 
     file_before : IsFile (g.shape v.device) before n is
@@ -226,10 +226,10 @@ module _ {D : Type 0} (g : Ghosts D) (v : Core D) (worker n size first : ℕ) (w
 
       is_page : IsPageAt page_of_stamp n is' page.index page.at
       is_page =
-          subst (λ (z : ℕ). IsThere page_of_stamp (record { size = z; tag = tag_of n is' page.index; pointer = page.at })) (sym took.sized)
-          (subst (λ (t : Tag). IsThere page_of_stamp (record { size = size; tag = t; pointer = page.at })) (of.of_file.tag ∙ ap (λ (c : ℕ). record { ino = n; generation = c; index = page.index }) (sym generation_after)) (there k page here))
+          subst (λ (z : ℕ). PointerIsThere page_of_stamp (record { size = z; tag = tag_of n is' page.index; pointer = page.at })) (sym took.sized)
+          (subst (λ (t : Tag). PointerIsThere page_of_stamp (record { size = size; tag = t; pointer = page.at })) (of.of_file.tag ∙ ap (λ (c : ℕ). record { ino = n; generation = c; index = page.index }) (sym generation_after)) (there k page here))
 
-      pages_after : HasPages after page_of_stamp n is'
+      pages_after : FileHasPages after page_of_stamp n is'
       pages_after =
           let low = of.below in
           let sized = took.sized in
@@ -298,14 +298,14 @@ module _ {D : Type 0} (g : Ghosts D) (v : Core D) (worker n size : ℕ) (was : I
     of : IsPageOfLine g v n size goes.line.first was page
     of = goes.line.each k page here
 
-    pub hand_at : IsAtHand g w n (page_in w worker k).index is
-    hand_at = subst (λ (x : Core D). IsAtHand g x n (page_in x worker k).index is) back (hand g v worker n size goes.line.first was w.meta w.nodes w.freeing is k page goes.at here of)
+    pub hand_at : FilePointerIsResident g w n (page_in w worker k).index is
+    hand_at = subst (λ (x : Core D). FilePointerIsResident g x n (page_in x worker k).index is) back (hand g v worker n size goes.line.first was w.meta w.nodes w.freeing is k page goes.at here of)
 
     pub page_at : IsPageOfFile g w n is (page_in w worker k)
     page_at = subst (λ (x : Core D). IsPageOfFile g x n is (page_in x worker k)) back (page_of_file g v worker n size goes.line.first was w.meta w.nodes w.freeing is k page goes.at here of)
 
-    pub room_at : HasRoom g w n is (page_in w worker k)
-    room_at = subst (λ (x : Core D). HasRoom g x n is (page_in x worker k)) back (room_for g v worker n size goes.line.first was w.meta w.nodes w.freeing is k page goes.at here of)
+    pub room_at : HasRoomToInstall g w n is (page_in w worker k)
+    room_at = subst (λ (x : Core D). HasRoomToInstall g x n is (page_in x worker k)) back (room_for g v worker n size goes.line.first was w.meta w.nodes w.freeing is k page goes.at here of)
 
     pub goes_on : (w' : Core D) (is' : InodeRec) → InstallsPage g n size (page_in w worker k) is is' w w' → IsCore g (with_landed w' worker (k + 1)) → LineGoes g v worker n size was w' is' (k + 1)
     goes_on w' is' took core =

@@ -17,9 +17,9 @@ use Rattle.nl_meta.specs.Consistent.{PageOfStamp}
 use Rattle.nl_meta.specs.Nodes.{graph_of}
 use Rattle.nl_meta.specs.Pages.{Pages}
 use Rattle.nl_meta.specs.PointerLists.{IsFile}
-use Rattle.nl_meta_running.specs.Running.{Runs, running_on}
+use Rattle.nl_meta_running.specs.Running.{RunningIsRight, running_on}
 use Rattle.nl_spec_image.specs.Stands.{bytes_for}
-use Rattle.nl_spec_commits.specs.Trees.{RunsAs}
+use Rattle.nl_spec_commits.specs.Trees.{RepresentsTree}
 use Rattle.nl_core.specs.Core.{IsCore, running_of}
 use Rattle.nl_core.specs.declared.state.Core.{Core}
 use Rattle.nl_calls_files.specs.FileTrees.{held_content}
@@ -40,7 +40,7 @@ module _ {D : Type 0} (g : Ghosts D) (v : Core D) (worker n size first : ℕ) (w
   abbrev after : VirtualMap
   after = running_on g v.device m
 
-  runs : Runs g v.device m
+  runs : RunningIsRight g v.device m
   runs = at.core.journaled.runs
 
   file_before : IsFile (g.shape v.device) (running_of g v) n was
@@ -49,7 +49,7 @@ module _ {D : Type 0} (g : Ghosts D) (v : Core D) (worker n size first : ℕ) (w
   sized : is.size ≡ size
   sized = at.sized some
 
-  module _ (page_of_stamp : ℕ → Option PageOfStamp) (tree : Tree) (path : List (List ℕ)) (stood : RunsAs (g.shape v.device) (running_of g v) page_of_stamp tree)
+  module _ (page_of_stamp : ℕ → Option PageOfStamp) (tree : Tree) (path : List (List ℕ)) (stood : RepresentsTree (g.shape v.device) (running_of g v) page_of_stamp tree)
       (leads : node_reached (graph_of (g.shape v.device) (running_of g v)) 0 path ≡ Some n) (there : AreThere page_of_stamp size (worker_pages v worker)) where
     abbrev held : FileContent
     held = held_content page_of_stamp (running_of g v) was
@@ -66,7 +66,7 @@ module _ {D : Type 0} (g : Ghosts D) (v : Core D) (worker n size first : ℕ) (w
     content_after : held_content page_of_stamp after is ≡ with_pages (shown_pages page_of_stamp (worker_pages v worker)) size (content_of (node_at tree path))
     content_after = (λ i. record { size = sized i; pages = entries i }) ∙ ap (with_pages (shown_pages page_of_stamp (worker_pages v worker)) size) (sym content_before)
 
-    runs_on : RunsAs (g.shape v.device) after page_of_stamp (with_content tree path (held_content page_of_stamp after is))
+    runs_on : RepresentsTree (g.shape v.device) after page_of_stamp (with_content tree path (held_content page_of_stamp after is))
     runs_on = file_runs_on (g.shape v.device) (running_of g v) after page_of_stamp (g.names v.device) n was is path tree stood (record {
       right = record { nodes = runs.nodes; addresses = runs.addresses; entries = runs.entries };
       file_before = file_before;
@@ -78,8 +78,8 @@ module _ {D : Type 0} (g : Ghosts D) (v : Core D) (worker n size first : ℕ) (w
       leads = leads;
     })
 
-    stands : RunsAs (g.shape v.device) after page_of_stamp (with_content tree path (with_pages (shown_pages page_of_stamp (worker_pages v worker)) size (content_of (node_at tree path))))
-    stands = subst (λ (c : FileContent). RunsAs (g.shape v.device) after page_of_stamp (with_content tree path c)) content_after runs_on
+    stands : RepresentsTree (g.shape v.device) after page_of_stamp (with_content tree path (with_pages (shown_pages page_of_stamp (worker_pages v worker)) size (content_of (node_at tree path))))
+    stands = subst (λ (c : FileContent). RepresentsTree (g.shape v.device) after page_of_stamp (with_content tree path c)) content_after runs_on
 
   -- the worker has no line by now
   abbrev ended : Core D

@@ -8,20 +8,20 @@ use Rattle.nl_iface.specs.Device.{IsVolumeShape}
 use Rattle.nl_iface.specs.declared.counts.Counts.{Ghosts}
 use Rattle.nl_meta.specs.Nodes.{graph_of}
 use Rattle.nl_meta.proofs.Lists.{some_in}
-use Rattle.nl_meta_running.specs.Running.{IsUsed}
+use Rattle.nl_meta_running.specs.Running.{IsUsedNode}
 use Rattle.nl_meta_running.proofs.GraphStays.{graph-same}
 use Rattle.nl_meta_running.proofs.Holds.{bounds-of}
 use Rattle.nl_core.specs.Core.{running_of}
 use Rattle.nl_core.specs.declared.state.Core.{Core}
 use Rattle.nl_calls_files.specs.Fits.{IsFileOf}
-use Rattle.nl_calls_steps.specs.Reading.{IsOpened}
+use Rattle.nl_calls_steps.specs.Reading.{HasRecordThroughout}
 use Rattle.nl_calls_steps.specs.Steps.{ReadsOn}
 use Rattle.nl_calls_steps.specs.Finding.{IsSomeFile, nodes_of}
-use Rattle.nl_calls_steps.specs.Paging.{HasPage}
+use Rattle.nl_calls_steps.specs.Paging.{ArePageBytes}
 use Rattle.nl_calls_steps.proofs.ReadCores.{node-back, node-on, runs-then, same-shape}
 
 -- the record of a node that is a file, as it was opened
-pub opened-file : {D : Type 0} (g : Ghosts D) (u v : Core D) (n : ℕ) (rec : InodeRec) → IsSomeFile g u n → IsOpened g u v n rec → IsFileOf g v.device v.meta n rec
+pub opened-file : {D : Type 0} (g : Ghosts D) (u v : Core D) (n : ℕ) (rec : InodeRec) → IsSomeFile g u n → HasRecordThroughout g u v n rec → IsFileOf g v.device v.meta n rec
 opened-file g u v n rec file opened = record {
   is_node = opened.after;
   is_file = ap (λ (z : InodeRec). z.kind) (some_in rec file.0 (sym opened.before.spelled ∙ file.1.is_node.spelled)) ∙ file.1.is_file;
@@ -29,7 +29,7 @@ opened-file g u v n rec file opened = record {
 
 module _ {D : Type 0} (g : Ghosts D) (u v : Core D) (volume : IsVolumeShape (g.shape u.device)) (a : ReadsOn g u v) where
   -- a node that is used still is
-  pub still-used : (n : ℕ) → IsUsed g u.device u.meta n → IsUsed g v.device v.meta n
+  pub still-used : (n : ℕ) → IsUsedNode g u.device u.meta n → IsUsedNode g v.device v.meta n
   still-used n used = (used.0, node-on g u v volume a n used.0 used.1)
 
   pub file-on : (n : ℕ) (rec : InodeRec) → IsFileOf g u.device u.meta n rec → IsFileOf g v.device v.meta n rec
@@ -44,6 +44,6 @@ module _ {D : Type 0} (g : Ghosts D) (u v : Core D) (volume : IsVolumeShape (g.s
   pub same-nodes : nodes_of g v ≡ nodes_of g u
   same-nodes = ap (λ (h : Shape). graph_of h (running_of g v)) (same-shape g u v a) ∙ graph-same (g.shape u.device) (bounds-of (g.shape u.device) volume) (running_of g u) (running_of g v) a.runs.needed
 
-  pub page-back : (n index : ℕ) (bytes : List ℕ) → HasPage g v n index bytes → HasPage g u n index bytes
+  pub page-back : (n index : ℕ) (bytes : List ℕ) → ArePageBytes g v n index bytes → ArePageBytes g u n index bytes
   page-back n index bytes has = λ tells page_of_stamp tree path at reached.
       has tells page_of_stamp tree path (runs-then g u v a tells page_of_stamp tree at) (ap (λ (graph : Graph). node_reached graph 0 path) same-nodes ∙ reached)

@@ -16,7 +16,7 @@ use Rattle.nl_indirect.specs.Ranges.{IsFileRecord}
 use Rattle.nl_meta.specs.Committed.{VirtualMap}
 use Rattle.nl_meta.specs.Consistent.{PageOfStamp}
 use Rattle.nl_meta.specs.Nodes.{pointer_at, pointers_of_inode}
-use Rattle.nl_meta_running.specs.Reading.{Reads}
+use Rattle.nl_meta_running.specs.Reading.{ReadsExplainStop}
 use Rattle.nl_meta_running.specs.Running.{IsNodeOf}
 use Rattle.nl_meta_running.specs.declared.answer.Stop.{Stop}
 use Rattle.nl_meta_running.specs.declared.answer.Stop.TheVariants as stop
@@ -29,9 +29,9 @@ use Rattle.nl_files.specs.Spans.{pointers_from}
 use Rattle.nl_files.specs.declared.answer.CountPages.{CountPages}
 use Rattle.nl_files.specs.declared.answer.CountPages.TheVariants as counted
 use Rattle.nl_files.proofs.LawProofs.{all_are_of_node}
-use Rattle.nl_spec_commits.specs.Trees.{RunsAs}
+use Rattle.nl_spec_commits.specs.Trees.{RepresentsTree}
 use Rattle.nl_core.specs.Core.{IsCore, running_of}
-use Rattle.nl_core.specs.Trees.{CoreRuns}
+use Rattle.nl_core.specs.Trees.{CoreRepresentsTree}
 use Rattle.nl_core.specs.declared.state.Core.{Core}
 use Rattle.nl_calls_steps.specs.Steps.{ReadsOn}
 
@@ -67,10 +67,10 @@ module _ {D : Type 0} (g : Ghosts D) (u v : Core D) (on : ReadsOn g u v) where
     same-bytes = λ i p. on.runs.reads.medium.bytes tells p i
 
     -- a core that was only read runs as the same trees
-    pub runs-then : (page_of_stamp : ℕ → Option PageOfStamp) (tree : Tree) → CoreRuns g u page_of_stamp tree → CoreRuns g v page_of_stamp tree
+    pub runs-then : (page_of_stamp : ℕ → Option PageOfStamp) (tree : Tree) → CoreRepresentsTree g u page_of_stamp tree → CoreRepresentsTree g v page_of_stamp tree
     runs-then page_of_stamp tree r = record {
-      runs = subst (λ (shape : Shape). RunsAs shape (running_of g v) page_of_stamp tree) (sym same-shape)
-          (subst (λ (pages : VirtualMap). RunsAs (g.shape u.device) pages page_of_stamp tree) (sym same-running) r.runs);
+      runs = subst (λ (shape : Shape). RepresentsTree shape (running_of g v) page_of_stamp tree) (sym same-shape)
+          (subst (λ (pages : VirtualMap). RepresentsTree (g.shape u.device) pages page_of_stamp tree) (sym same-running) r.runs);
       shows = λ p page is. r.shows p page (ap (λ (names : Names). names.live p) (sym same-names) ∙ is) ∙ ap (λ (bytes : List ℕ). Some (record { tag = page.tag; bytes = bytes })) (sym (on.runs.reads.medium.bytes tells p));
       given = λ stamp page is. let low = r.given stamp page is in let same = on.runs.reads.medium.next_stamp in omega (arith, low, same);
     }
@@ -81,7 +81,7 @@ module _ {D : Type 0} (g : Ghosts D) (u v : Core D) (on : ReadsOn g u v) where
 
 -- ---- after a part in which no read failed
 
-pub reads-after : {D : Type 0} (g : Ghosts D) (s t u : D) (o : Option Stop) → OnlyReads g s t → g.read_faults t ≡ g.read_faults s → Reads g t u o → Reads g s u o
+pub reads-after : {D : Type 0} (g : Ghosts D) (s t u : D) (o : Option Stop) → OnlyReads g s t → g.read_faults t ≡ g.read_faults s → ReadsExplainStop g t u o → ReadsExplainStop g s u o
 reads-after g s t u None on same r = r ∙ same
 reads-after g s t u (Some stop.Fault) on same r = subst (λ (n : ℕ). FailuresCounted ⊤ n (g.read_faults u) ⊤) same r
 reads-after g s t u (Some (stop.Lost w f)) on same r = (r.0 ∙ same, (r.1.0, sym (on.medium.virtual.same_stamps r.1.0) ∙ r.1.1), r.2, r.3)

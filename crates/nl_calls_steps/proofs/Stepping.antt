@@ -4,7 +4,7 @@ use Rattle.nl_field.specs.CrashStates.{top}
 use Rattle.nl_field.specs.declared.shape.Shape.{Shape}
 use Rattle.nl_field.specs.PointerItems.{PointerItems}
 use Rattle.nl_flight.specs.Flight.{InFlight, IsFlight, carried}
-use Rattle.nl_spec_holders.specs.Holding.{MarkedTo}
+use Rattle.nl_spec_holders.specs.Holding.{HandledUpTo}
 use Rattle.nl_iface.specs.Calls.{KeepsMedium, StoresPages}
 use Rattle.nl_iface.specs.Device.{IsVolumeShape}
 use Rattle.nl_iface.specs.Names.{Has, Names}
@@ -16,24 +16,24 @@ use Rattle.nl_journal.specs.Progress.{HasNumber, Progress, begun}
 use Rattle.nl_meta.specs.Consistent.{PageOfStamp}
 use Rattle.nl_meta.specs.Pages.{Frozen, Pages}
 use Rattle.nl_meta.proofs.PageProofs.{both, loaded}
-use Rattle.nl_meta_running.specs.Reading.{Reads}
-use Rattle.nl_meta_running.specs.Running.{RunsOn}
+use Rattle.nl_meta_running.specs.Reading.{ReadsExplainStop}
+use Rattle.nl_meta_running.specs.Running.{PreservesRunning}
 use Rattle.nl_meta_running.specs.declared.answer.Stop.{Stop}
 use Rattle.nl_meta_running.specs.declared.answer.Stop.TheVariants as stop
 use Rattle.nl_meta_running.proofs.Holds.{bounds-of}
 use Rattle.nl_meta_running.proofs.Kept.{loads-on, runs-then}
 use Rattle.nl_tree.specs.Tree.{Tree}
-use Rattle.nl_journal_commit.specs.Completing.{IsOpen}
+use Rattle.nl_journal_commit.specs.Completing.{AwaitsCommitPage}
 use Rattle.nl_spec_commits.specs.Held.{IsHeldVolume}
 use Rattle.nl_spec_commits.specs.TreeLaws.{OpensFrom}
-use Rattle.nl_spec_commits.specs.Trees.{RunsAs, StandsAs, StandsFor, Trees}
+use Rattle.nl_spec_commits.specs.Trees.{RepresentsTree, RepresentsPrefix, RepresentsTrees, Trees}
 use Rattle.nl_spec_commits.proofs.Changing.{steps_journaled}
 use Rattle.nl_spec_commits.proofs.DeviceTrees.{addresses_go}
 use Rattle.nl_spec_commits.proofs.Firm.{medium_keeps_firm}
 use Rattle.nl_spec_commits.proofs.Replacing.{reading_keeps_held}
 use Rattle.nl_spec_commits.proofs.Trees.{runs_alike}
 use Rattle.nl_core.specs.Core.{HasSpace, IsCore, IsPhysical, begun_of, names_of, running_of}
-use Rattle.nl_core.specs.Trees.{CoreRuns, CoreStands, IsTold}
+use Rattle.nl_core.specs.Trees.{CoreRepresentsTree, CoreRepresents, CoreIsObservable}
 use Rattle.nl_core.specs.declared.state.Core.{Core}
 use Rattle.nl_core.proofs.Running.{runs_with}
 use Rattle.nl_core.proofs.Written.{has_free_on, same_running}
@@ -61,7 +61,7 @@ module _ {D : Type 0} (g : Ghosts D) (v w : Core D) (core : IsCore g v) (volume 
   begun_stays : begun v.journal (length w.meta.frozen.addresses) ≡ begun_of v
   begun_stays = ap (λ (f : Frozen). begun v.journal (length f.addresses)) step.pages.same_frozen
 
-  marked_on : MarkedTo (names_of g w) (begun v.journal (length w.meta.frozen.addresses) + 1)
+  marked_on : HandledUpTo (names_of g w) (begun v.journal (length w.meta.frozen.addresses) + 1)
   marked_on c n has at =
       let low = core.marked c n (subst (λ (m : Names). Has m.pending c) step.reads.names has) (ap (λ (m : Names). m.handled c.number) (sym step.reads.names) ∙ at) in
       let is = begun_stays in
@@ -109,25 +109,25 @@ module _ {D : Type 0} (g : Ghosts D) (v w : Core D) (core : IsCore g v) (volume 
 
   -- ---- for which trees it stands
 
-  module _ (page_of_stamp : ℕ → Option PageOfStamp) (t : Trees) (tree : Tree) (runs : RunsAs (g.shape w.device) (running_of g w) page_of_stamp tree) where
-    stands_on : g.tells → HasNumber v.journal (length v.meta.frozen.addresses) → StandsFor g v.device v.journal v.meta v.count page_of_stamp t
-        → StandsFor g w.device v.journal w.meta v.count page_of_stamp (record { committed = t.committed; frozen = t.frozen; running = tree })
+  module _ (page_of_stamp : ℕ → Option PageOfStamp) (t : Trees) (tree : Tree) (runs : RepresentsTree (g.shape w.device) (running_of g w) page_of_stamp tree) where
+    stands_on : g.tells → HasNumber v.journal (length v.meta.frozen.addresses) → RepresentsTrees g v.device v.journal v.meta v.count page_of_stamp t
+        → RepresentsTrees g w.device v.journal w.meta v.count page_of_stamp (record { committed = t.committed; frozen = t.frozen; running = tree })
     stands_on tells numbers at =
         let on = addresses_go g v.device w.device v.journal v.meta v.count page_of_stamp t volume tells numbers core.journaled kept.virtual at in
         let frozen = sym step.pages.same_frozen in
         record {
           running = runs;
           committed = on.committed;
-          frozen = subst (λ (f : Frozen). IsOpen v.journal f → StandsAs (g.shape w.device) (finished v.journal.phase f (committed_on g w.device)) page_of_stamp t.frozen) frozen on.frozen;
-          thawed = subst (λ (f : Frozen). (IsOpen v.journal f → ⊥) → t.frozen ≡ t.committed) frozen on.thawed;
+          frozen = subst (λ (f : Frozen). AwaitsCommitPage v.journal f → RepresentsPrefix (g.shape w.device) (finished v.journal.phase f (committed_on g w.device)) page_of_stamp t.frozen) frozen on.frozen;
+          thawed = subst (λ (f : Frozen). (AwaitsCommitPage v.journal f → ⊥) → t.frozen ≡ t.committed) frozen on.thawed;
           later = on.later;
           latest = on.latest;
         }
 
-    pub stands_after : IsTold g w → CoreStands g v page_of_stamp t → CoreStands g w page_of_stamp (record { committed = t.committed; frozen = t.frozen; running = tree })
-    stands_after told at = subst (λ (x : Core D). CoreStands g x page_of_stamp (record { committed = t.committed; frozen = t.frozen; running = tree })) (sym step.others) (record {
+    pub stands_after : CoreIsObservable g w → CoreRepresents g v page_of_stamp t → CoreRepresents g w page_of_stamp (record { committed = t.committed; frozen = t.frozen; running = tree })
+    stands_after told at = subst (λ (x : Core D). CoreRepresents g x page_of_stamp (record { committed = t.committed; frozen = t.frozen; running = tree })) (sym step.others) (record {
       stands = stands_on told.tells (numbers_before (ap (λ (x : Core D). x.journal) step.others)) at.stands;
-      runs = subst (λ (x : Core D). CoreRuns g x page_of_stamp tree) step.others (steps_run g v w page_of_stamp t.running tree told.tells step at.runs runs);
+      runs = subst (λ (x : Core D). CoreRepresentsTree g x page_of_stamp tree) step.others (steps_run g v w page_of_stamp t.running tree told.tells step at.runs runs);
       committed = at.committed;
     })
       where
@@ -198,7 +198,7 @@ module _ {D : Type 0} (g : Ghosts D) (v w : Core D) (volume : IsVolumeShape (g.s
   read_alike = record {
     core = read_core;
     steps = read_step;
-    trees = λ page_of_stamp tree runs. subst (λ (h : Shape). RunsAs h (running_of g w) page_of_stamp tree) (sym read_shape)
+    trees = λ page_of_stamp tree runs. subst (λ (h : Shape). RepresentsTree h (running_of g w) page_of_stamp tree) (sym read_shape)
         (runs_alike (g.shape v.device) (running_of g v) (running_of g w) page_of_stamp tree r.runs.needed runs);
   }
 
@@ -206,15 +206,15 @@ pub reads_are_alike : {D : Type 0} (g : Ghosts D) → ReadsAreAlike g
 reads_are_alike g old new volume formed stores r = read_alike g old new volume formed stores r
 
 -- reads that failed, or none
-pub reads_rise : {D : Type 0} (g : Ghosts D) (s t : D) (o : Option Stop) → Reads g s t o → g.read_faults s ≤ g.read_faults t
+pub reads_rise : {D : Type 0} (g : Ghosts D) (s t : D) (o : Option Stop) → ReadsExplainStop g s t o → g.read_faults s ≤ g.read_faults t
 reads_rise g s t None r = omega (arith, r)
 reads_rise g s t (Some stop.Fault) r = r.never_falls
 reads_rise g s t (Some (stop.Lost w f)) r = let same = r.0 in omega (arith, same)
 
 -- a core of which pages were read
-pub read_on : {D : Type 0} (g : Ghosts D) (v : Core D) (d : D) (pages : Pages) → RunsOn g v.device v.meta d pages → g.read_faults v.device ≤ g.read_faults d → ReadsOn g v (record v { device = d; meta = pages })
+pub read_on : {D : Type 0} (g : Ghosts D) (v : Core D) (d : D) (pages : Pages) → PreservesRunning g v.device v.meta d pages → g.read_faults v.device ≤ g.read_faults d → ReadsOn g v (record v { device = d; meta = pages })
 read_on g v d pages runs faults = record { runs = runs; read_faults = faults; others = refl }
 
-pub core_read : {D : Type 0} (g : Ghosts D) (v : Core D) (d : D) (pages : Pages) → IsVolumeShape (g.shape v.device) → g.formed d → (g.tells → StoresPages g d) → IsCore g v → RunsOn g v.device v.meta d pages
+pub core_read : {D : Type 0} (g : Ghosts D) (v : Core D) (d : D) (pages : Pages) → IsVolumeShape (g.shape v.device) → g.formed d → (g.tells → StoresPages g d) → IsCore g v → PreservesRunning g v.device v.meta d pages
     → g.read_faults v.device ≤ g.read_faults d → IsCore g (record v { device = d; meta = pages })
 core_read g v d pages volume formed stores core runs faults = (read_alike g v (record v { device = d; meta = pages }) volume formed stores (read_on g v d pages runs faults)).core core

@@ -7,7 +7,7 @@ use Rattle.nl_field.specs.declared.pointer.Tag.{Tag}
 use Rattle.nl_core_callbacks.specs.Handled.{nameless_line}
 use Rattle.nl_flight.specs.Flight.{InFlight, IsFlight, begun, of_worker, with_line}
 use Rattle.nl_flight.specs.declared.page.FlightPage.{FlightPage}
-use Rattle.nl_core.specs.Programming.{HasLine, behind, line_of, with_page}
+use Rattle.nl_core.specs.Programming.{HasLineOrNone, behind, line_of, with_page}
 use Rattle.nl_core.proofs.Lines.{in_flight, own_with}
 use Rattle.nl_calls_files.proofs.LinePages.{bare}
 
@@ -45,23 +45,23 @@ module _ (flight : List InFlight) (worker line : ℕ) (tag : Tag) (at : Pointer)
   pub others_put : (w : ℕ) → w ≢ worker → of_worker (with_page flight worker line tag at) w ≡ of_worker flight w
   others_put w far = get_or-set_other flight worker w (behind (line_of flight worker line) tag at) (begun 0) far
 
-  pub line_put : HasLine flight worker line → HasLine (with_page flight worker line tag at) worker line
+  pub line_put : HasLineOrNone flight worker line → HasLineOrNone (with_page flight worker line tag at) worker line
   line_put h = by h (cases_eq (of_worker flight worker).line 0)
     where
-      by : HasLine flight worker line → ((of_worker flight worker).line ≡ 0) ⊎ ((of_worker flight worker).line ≢ 0) → HasLine (with_page flight worker line tag at) worker line
+      by : HasLineOrNone flight worker line → ((of_worker flight worker).line ≡ 0) ⊎ ((of_worker flight worker).line ≢ 0) → HasLineOrNone (with_page flight worker line tag at) worker line
       by h (inl none) =
           inr (ap (λ (y : InFlight). y.line) own ∙ ap (λ (y : InFlight). y.line) (cond-true ((of_worker flight worker).line == 0) (begun line) (of_worker flight worker) (eq-eqb (of_worker flight worker).line 0 none)))
       by (inl none) (inr has) = absurd (has none)
       by (inr own_line) (inr has) =
           inr (ap (λ (y : InFlight). y.line) own ∙ ap (λ (y : InFlight). y.line) (cond-false ((of_worker flight worker).line == 0) (begun line) (of_worker flight worker) (ne_eqb (of_worker flight worker).line 0 has)) ∙ own_line)
 
-pub line_same : (a b : List InFlight) (worker line : ℕ) → map nameless_line a ≡ map nameless_line b → HasLine b worker line → HasLine a worker line
+pub line_same : (a b : List InFlight) (worker line : ℕ) → map nameless_line a ≡ map nameless_line b → HasLineOrNone b worker line → HasLineOrNone a worker line
 line_same a b worker line e h = by h
   where
     same : (of_worker a worker).line ≡ (of_worker b worker).line
     same = ap (λ (y : InFlight). y.line) (same_line a b e worker)
 
-    by : HasLine b worker line → HasLine a worker line
+    by : HasLineOrNone b worker line → HasLineOrNone a worker line
     by (inl none) = inl (same ∙ none)
     by (inr is) = inr (same ∙ is)
 

@@ -11,39 +11,39 @@ use Rattle.nl_meta.specs.Consistent.{PageOfStamp}
 use Rattle.nl_meta_running.specs.declared.answer.Stop.{Stop}
 use Rattle.nl_meta_running.specs.declared.answer.Stop.TheVariants as stop
 use Rattle.nl_journal_commit.specs.Holding.{running_holders}
-use Rattle.nl_spec_commits.specs.Trees.{RunsAs}
+use Rattle.nl_spec_commits.specs.Trees.{RepresentsTree}
 use Rattle.nl_core.specs.Core.{IsCore, running_of}
-use Rattle.nl_core.specs.Goes.{Goes}
-use Rattle.nl_core.specs.Trees.{CoreRuns}
+use Rattle.nl_core.specs.Goes.{PreservesVolume}
+use Rattle.nl_core.specs.Trees.{CoreRepresentsTree}
 use Rattle.nl_core.specs.declared.state.Core.{Core}
 use Rattle.nl_calls_steps.specs.Steps.{Steps}
 use Rattle.nl_calls_steps.specs.declared.answer.Written.{Written}
 use Rattle.nl_calls_steps.specs.declared.answer.Written.TheVariants as written
 
 -- the core runs as some tree while the medium tells its contents
-abbrev pub RunsAsSome : {D : Type 0} → Ghosts D → Core D → Type 0
-RunsAsSome g v = g.tells → (page_of_stamp : ℕ → Option PageOfStamp) × (tree : Tree) × CoreRuns g v page_of_stamp tree
+abbrev pub RepresentsSomeTree : {D : Type 0} → Ghosts D → Core D → Type 0
+RepresentsSomeTree g v = g.tells → (page_of_stamp : ℕ → Option PageOfStamp) × (tree : Tree) × CoreRepresentsTree g v page_of_stamp tree
 
 -- files have so many pages
 abbrev pub HasPagesOfFiles : {D : Type 0} → Ghosts D → Core D → ℕ → Type 0
 HasPagesOfFiles g v files = files ≡ length (running_holders g v.device v.meta)
 
 -- The lines of other workers are those of before but for the names of their pages.
-abbrev pub OthersStay : ℕ → List InFlight → List InFlight → Type 0
-OthersStay worker old new = (w : ℕ) → w ≢ worker → nameless_line (of_worker new w) ≡ nameless_line (of_worker old w)
+abbrev pub OtherLinesStay : ℕ → List InFlight → List InFlight → Type 0
+OtherLinesStay worker old new = (w : ℕ) → w ≢ worker → nameless_line (of_worker new w) ≡ nameless_line (of_worker old w)
 
 -- The pages of the core stand for what the call makes of each tree as which it ran.
 abbrev pub MakesTree : {D : Type 0} → Ghosts D → Core D → Core D → Call × Option FaultReply → Type 0
 MakesTree g old new x =
-    g.tells → (page_of_stamp : ℕ → Option PageOfStamp) (tree : Tree) → CoreRuns g old page_of_stamp tree
-    → RunsAs (g.shape new.device) (running_of g new) page_of_stamp (step_marked (g.shape old.device) tree x).tree
+    g.tells → (page_of_stamp : ℕ → Option PageOfStamp) (tree : Tree) → CoreRepresentsTree g old page_of_stamp tree
+    → RepresentsTree (g.shape new.device) (running_of g new) page_of_stamp (step_marked (g.shape old.device) tree x).tree
 
 -- The core goes on, with at most so many write sequence numbers, and then makes of its tree what the call makes of it. The worker has no
 -- line afterwards.
 pub record TakesWithin {D : Type 0} (g : Ghosts D) (most worker : ℕ) (call : Call) (old new : Core D) : Type 0 where
   pub between : Core D
   pub core : IsCore g between
-  pub goes : Goes g most old between
+  pub goes : PreservesVolume g most old between
   pub steps : Steps g between new
   pub makes : MakesTree g between new (call, None)
   pub ended : of_worker new.flight worker ≡ begun 0
@@ -52,11 +52,11 @@ abbrev pub TakesCall : {D : Type 0} → Ghosts D → ℕ → Call → Core D →
 TakesCall g worker call old new = TakesWithin g (2 ^ 40) worker call old new
 
 -- the call is done, and P holds of how many pages files have then
-abbrev pub IfDone : Written → (ℕ → Type 0) → Type 0
-IfDone (written.Done files) P = P files
-IfDone (written.No refusal) P = ⊤
-IfDone (written.Lost w f) P = ⊤
-IfDone written.Fault P = ⊤
+abbrev pub IfWritten : Written → (ℕ → Type 0) → Type 0
+IfWritten (written.Done files) P = P files
+IfWritten (written.No refusal) P = ⊤
+IfWritten (written.Lost w f) P = ⊤
+IfWritten written.Fault P = ⊤
 
 -- the call is not done, and P holds
 abbrev pub IfUndone : Written → Type 0 → Type 0

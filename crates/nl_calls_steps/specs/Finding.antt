@@ -11,7 +11,7 @@ use Rattle.nl_iface.specs.declared.counts.Counts.{Ghosts}
 use Rattle.nl_meta.specs.Consistent.{PageOfStamp}
 use Rattle.nl_meta.specs.Nodes.{graph_of}
 use Rattle.nl_meta_running.specs.Running.{IsNodeOf}
-use Rattle.nl_spec_commits.specs.Trees.{RunsAs}
+use Rattle.nl_spec_commits.specs.Trees.{RepresentsTree}
 use Rattle.nl_core.specs.Core.{running_of}
 use Rattle.nl_core.specs.declared.state.Core.{Core}
 use Rattle.nl_calls_files.specs.Fits.{IsFileOf}
@@ -32,10 +32,10 @@ abbrev pub IsOfGeneration : {D : Type 0} → Ghosts D → Core D → ℕ → ℕ
 IsOfGeneration g v n generation = (rec : InodeRec) × IsFileOf g v.device v.meta n rec × (rec.generation ≡ generation)
 
 -- The path leads to a file; or it is refused as in the tree for which the core stands.
-abbrev pub IsFound : {D : Type 0} → Ghosts D → Core D → List (List ℕ) → Found → Type 0
-IsFound g v path (found.File n) = (is_too_long path ≡ false) × (node_reached (nodes_of g v) 0 path ≡ Some n) × IsSomeFile g v n
-IsFound g v path (found.No refusal) =
-    (page_of_stamp : ℕ → Option PageOfStamp) (tree : Tree) → RunsAs (g.shape v.device) (running_of g v) page_of_stamp tree
+abbrev pub IsFoundFile : {D : Type 0} → Ghosts D → Core D → List (List ℕ) → Found → Type 0
+IsFoundFile g v path (found.File n) = (is_too_long path ≡ false) × (node_reached (nodes_of g v) 0 path ≡ Some n) × IsSomeFile g v n
+IsFoundFile g v path (found.No refusal) =
+    (page_of_stamp : ℕ → Option PageOfStamp) (tree : Tree) → RepresentsTree (g.shape v.device) (running_of g v) page_of_stamp tree
     → refusal_of_path tree path ≡ Some refusal
 
 -- The node is a file, or a directory, which is refused.

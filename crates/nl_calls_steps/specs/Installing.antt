@@ -8,7 +8,7 @@ use Rattle.nl_flight.specs.declared.page.FlightPage.{FlightPage}
 use Rattle.nl_iface.specs.declared.counts.Counts.{Ghosts}
 use Rattle.nl_inode.specs.Nodes.{page_of_node}
 use Rattle.nl_indirect.specs.Ranges.{HasRange}
-use Rattle.nl_indirect.specs.Storing.{Begins}
+use Rattle.nl_indirect.specs.Storing.{BeginsRange}
 use Rattle.nl_meta.specs.Nodes.{is_physical_name, pointer_at}
 use Rattle.nl_meta.specs.Pages.{page_of}
 use Rattle.nl_files.specs.InstallLaws.{FileIsInstalled}
@@ -33,16 +33,16 @@ page_in v worker k =
     (record { index = 0; at = no_pointer; tag = record { ino = 0; generation = 0; index = 0 } })
 
 -- A file whose record, and whose pointer at an index, are resident.
-pub record IsAtHand {D : Type 0} (g : Ghosts D) (v : Core D) (n index : ℕ) (rec : InodeRec) : Type 0 where
+pub record FilePointerIsResident {D : Type 0} (g : Ghosts D) (v : Core D) (n index : ℕ) (rec : InodeRec) : Type 0 where
   pub file : IsFileOf g v.device v.meta n rec
   pub there : IsSome (page_of v.meta (page_of_node n))
   pub range : HasRange (page_of v.meta) rec index
 
 -- There is room for the pages that become dirty. A new page of pointers finds a free address, and a new page of the file is one that the
 -- volume may have.
-pub record HasRoom {D : Type 0} (g : Ghosts D) (v : Core D) (n : ℕ) (rec : InodeRec) (page : FlightPage) : Type 0 where
+pub record HasRoomToInstall {D : Type 0} (g : Ghosts D) (v : Core D) (n : ℕ) (rec : InodeRec) (page : FlightPage) : Type 0 where
   pub dirty : HasRoomToTake v.meta rec n page.index
-  pub pool : Begins rec page.index (Some page.at) → HasFree v.nodes
+  pub pool : BeginsRange rec page.index (Some page.at) → HasFree v.nodes
   pub few : is_none_pointer (pointer_at (running_of g v) rec page.index) ≡ true
       → length (running_holders g v.device v.meta) < (g.shape v.device).cap
 

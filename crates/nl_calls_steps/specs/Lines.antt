@@ -13,7 +13,7 @@ use Rattle.nl_meta.specs.Consistent.{PageOfStamp}
 use Rattle.nl_meta.specs.Nodes.{graph_of}
 use Rattle.nl_meta.specs.Pages.{besides_0, most, page_of}
 use Rattle.nl_journal_commit.specs.Holding.{running_holders}
-use Rattle.nl_spec_commits.specs.Trees.{RunsAs}
+use Rattle.nl_spec_commits.specs.Trees.{RepresentsTree}
 use Rattle.nl_core.specs.Core.{running_of}
 use Rattle.nl_core.specs.declared.state.Core.{Core}
 use Rattle.nl_calls_files.specs.Fits.{IsFileOf}
@@ -56,9 +56,9 @@ pub record IsLineOfFile {D : Type 0} (g : Ghosts D) (v : Core D) (worker n size 
 abbrev pub LineIsWritten : {D : Type 0} → Ghosts D → ℕ → ℕ → List FlightPage → Core D → Core D → Type 0
 LineIsWritten g n size pages old new =
     (page_of_stamp : ℕ → Option PageOfStamp) (tree : Tree) (path : List (List ℕ))
-    → RunsAs (g.shape old.device) (running_of g old) page_of_stamp tree
+    → RepresentsTree (g.shape old.device) (running_of g old) page_of_stamp tree
     → node_reached (graph_of (g.shape old.device) (running_of g old)) 0 path ≡ Some n → AreThere page_of_stamp size pages
-    → RunsAs (g.shape new.device) (running_of g new) page_of_stamp
+    → RepresentsTree (g.shape new.device) (running_of g new) page_of_stamp
     (with_content tree path (with_pages (shown_pages page_of_stamp pages) size (content_of (node_at tree path))))
 
 -- The file has the pages and the size, every other node has what it had, and the worker has no line.

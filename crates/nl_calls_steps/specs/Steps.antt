@@ -3,20 +3,20 @@ use Rattle.std.specs.Prelude.{◌≡◌, ℕ, ◌+◌, ◌≤◌, length, Option
 use Rattle.nl_field.specs.declared.pointer.Pointer.{Pointer}
 use Rattle.nl_field.specs.declared.pointer.Tag.{Tag}
 use Rattle.nl_flight.specs.Flight.{IsFlight, carried}
-use Rattle.nl_iface.specs.Calls.{Leaves, OnlyReads, StoresPages}
+use Rattle.nl_iface.specs.Calls.{CrashStatesHave, OnlyReads, StoresPages}
 use Rattle.nl_iface.specs.Device.{IsVolumeShape}
 use Rattle.nl_iface.specs.Names.{Has}
 use Rattle.nl_iface.specs.declared.counts.Counts.{Ghosts}
 use Rattle.nl_meta.specs.Consistent.{PageOfStamp}
-use Rattle.nl_meta.specs.Steps.{ChangesPages}
-use Rattle.nl_meta_running.specs.Running.{Runs, RunsOn}
+use Rattle.nl_meta.specs.Steps.{ChangesRunningPages}
+use Rattle.nl_meta_running.specs.Running.{RunningIsRight, PreservesRunning}
 use Rattle.nl_tree.specs.Tree.{Tree}
 use Rattle.nl_journal_commit.specs.Holding.{running_holders}
 use Rattle.nl_spec_commits.specs.Held.{IsHeldVolume}
 use Rattle.nl_spec_commits.specs.TreeLaws.{OpensFrom}
-use Rattle.nl_spec_commits.specs.Trees.{Prefix, RunsAs, Trees}
-use Rattle.nl_core.specs.Core.{HasFree, IsCore, running_of}
-use Rattle.nl_core.specs.Trees.{CoreRuns, CoreStands, IsTold}
+use Rattle.nl_spec_commits.specs.Trees.{Prefix, RepresentsTree, Trees}
+use Rattle.nl_core.specs.Core.{FreeAreUnused, IsCore, running_of}
+use Rattle.nl_core.specs.Trees.{CoreRepresentsTree, CoreRepresents, CoreIsObservable}
 use Rattle.nl_core.specs.declared.state.Core.{Core}
 
 -- The device was only read, and pages of the metadata changed in memory. Of the rest at most what is free changed, what is in flight, and
@@ -24,15 +24,15 @@ use Rattle.nl_core.specs.declared.state.Core.{Core}
 pub record Steps {D : Type 0} (g : Ghosts D) (old new : Core D) : Type 0 where
   pub reads : OnlyReads g old.device new.device
   pub read_faults : g.read_faults old.device ≤ g.read_faults new.device
-  pub pages : ChangesPages old.meta new.meta
+  pub pages : ChangesRunningPages old.meta new.meta
   pub room : length old.freeing.items + old.freeing.room ≤ length new.freeing.items + new.freeing.room
   pub others : new ≡ record old { device = new.device; meta = new.meta; nodes = new.nodes; flight = new.flight; freeing = new.freeing }
 
 -- The metadata runs, what is free is what no node has, and as many live pages are held as before, each of them once; the files have no more
 -- than they may have, and no further page is in flight.
 pub record IsHeldAfter {D : Type 0} (g : Ghosts D) (old new : Core D) : Type 0 where
-  pub runs : Runs g new.device new.meta
-  pub free : HasFree g new
+  pub runs : RunningIsRight g new.device new.meta
+  pub free : FreeAreUnused g new
   pub held : IsHeldVolume g new.device old.journal new.meta (carried new.flight) new.freeing.items
   pub as_many : length (running_holders g new.device new.meta) + length (carried new.flight) + length new.freeing.items
       ≡ length (running_holders g old.device old.meta) + length (carried old.flight) + length old.freeing.items
@@ -51,22 +51,22 @@ StepsAreCores {D} g =
 abbrev pub StepsGo : {D : Type 0} → Ghosts D → Type 0
 StepsGo {D} g =
     (old new : Core D) (page_of_stamp : ℕ → Option PageOfStamp) (t : Trees) (tree : Tree) → IsVolumeShape (g.shape old.device)
-    → IsCore g old → Steps g old new → IsTold g new → CoreStands g old page_of_stamp t
-    → RunsAs (g.shape new.device) (running_of g new) page_of_stamp tree
-    → CoreStands g new page_of_stamp (record { committed = t.committed; frozen = t.frozen; running = tree })
+    → IsCore g old → Steps g old new → CoreIsObservable g new → CoreRepresents g old page_of_stamp t
+    → RepresentsTree (g.shape new.device) (running_of g new) page_of_stamp tree
+    → CoreRepresents g new page_of_stamp (record { committed = t.committed; frozen = t.frozen; running = tree })
 
 -- Where the medium tells its contents, a core runs after a step as any tree for which its pages stand now.
 abbrev pub StepsRun : {D : Type 0} → Ghosts D → Type 0
 StepsRun {D} g =
     (old new : Core D) (page_of_stamp : ℕ → Option PageOfStamp) (was tree : Tree) → g.tells → Steps g old new
-    → CoreRuns g old page_of_stamp was
-    → RunsAs (g.shape new.device) (running_of g new) page_of_stamp tree → CoreRuns g new page_of_stamp tree
+    → CoreRepresentsTree g old page_of_stamp was
+    → RepresentsTree (g.shape new.device) (running_of g new) page_of_stamp tree → CoreRepresentsTree g new page_of_stamp tree
 
 -- A stop within a step leaves nothing that was not left before.
 abbrev pub StepsLeave : {D : Type 0} → Ghosts D → Type 0
 StepsLeave {D} g =
     (old new : Core D) (t : Trees) (y : Prefix) → g.tells → Steps g old new
-    → Leaves g (OpensFrom (g.shape old.device) old.count new.moment t y) old.device new.device
+    → CrashStatesHave g (OpensFrom (g.shape old.device) old.count new.moment t y) old.device new.device
 
 -- One step after the other is a step.
 abbrev pub StepsThen : {D : Type 0} → Ghosts D → Type 0
@@ -74,7 +74,7 @@ StepsThen {D} g = (first second third : Core D) → Steps g first second → Ste
 
 -- Where pages are only read, the volume is what it was.
 pub record ReadsOn {D : Type 0} (g : Ghosts D) (old new : Core D) : Type 0 where
-  pub runs : RunsOn g old.device old.meta new.device new.meta
+  pub runs : PreservesRunning g old.device old.meta new.device new.meta
   pub read_faults : g.read_faults old.device ≤ g.read_faults new.device
   pub others : new ≡ record old { device = new.device; meta = new.meta }
 
@@ -83,8 +83,8 @@ pub record ReadAlike {D : Type 0} (g : Ghosts D) (old new : Core D) : Type 0 whe
   pub core : IsCore g old → IsCore g new
   pub steps : Steps g old new
   pub trees : (page_of_stamp : ℕ → Option PageOfStamp) (tree : Tree)
-      → RunsAs (g.shape old.device) (running_of g old) page_of_stamp tree
-      → RunsAs (g.shape new.device) (running_of g new) page_of_stamp tree
+      → RepresentsTree (g.shape old.device) (running_of g old) page_of_stamp tree
+      → RepresentsTree (g.shape new.device) (running_of g new) page_of_stamp tree
 
 abbrev pub ReadsAreAlike : {D : Type 0} → Ghosts D → Type 0
 ReadsAreAlike {D} g =

@@ -13,8 +13,8 @@ use Rattle.nl_inode.specs.Nodes.{page_of_node}
 use Rattle.nl_meta.specs.Consistent.{PageOfStamp}
 use Rattle.nl_meta.specs.Nodes.{graph_of, pointer_at}
 use Rattle.nl_meta.specs.Pages.{page_of}
-use Rattle.nl_meta_running.specs.Running.{RunsOn}
-use Rattle.nl_spec_commits.specs.Trees.{RunsAs}
+use Rattle.nl_meta_running.specs.Running.{PreservesRunning}
+use Rattle.nl_spec_commits.specs.Trees.{RepresentsTree}
 use Rattle.nl_core.specs.Core.{running_of}
 use Rattle.nl_core.specs.declared.state.Core.{Core}
 use Rattle.nl_calls_files.specs.FileRuns.{EndsClean}
@@ -46,10 +46,10 @@ AreCut page_of_stamp content size pages =
 abbrev pub TreeIsCut : {D : Type 0} → Ghosts D → ℕ → ℕ → List FlightPage → Core D → Core D → Type 0
 TreeIsCut g n size pages old new =
     (page_of_stamp : ℕ → Option PageOfStamp) (tree : Tree) (path : List (List ℕ))
-    → RunsAs (g.shape old.device) (running_of g old) page_of_stamp tree
+    → RepresentsTree (g.shape old.device) (running_of g old) page_of_stamp tree
     → node_reached (graph_of (g.shape old.device) (running_of g old)) 0 path ≡ Some n
     → AreCut page_of_stamp (content_of (node_at tree path)) size pages
-    → RunsAs (g.shape new.device) (running_of g new) page_of_stamp (with_content tree path (cut_to (content_of (node_at tree path)) size))
+    → RepresentsTree (g.shape new.device) (running_of g new) page_of_stamp (with_content tree path (cut_to (content_of (node_at tree path)) size))
 
 -- The file has the size and what it holds below it, every other node has what it had, and the worker has no line.
 pub record CutsFileTo {D : Type 0} (g : Ghosts D) (worker n size : ℕ) (was is : InodeRec) (old new : Core D) : Type 0 where
@@ -67,5 +67,5 @@ pub record RefusesCut {D : Type 0} (g : Ghosts D) (was is : InodeRec) (old new :
   pub same : is ≡ was
   pub others : new ≡ record old { device = new.device; meta = new.meta; freeing = new.freeing }
   pub awaits : new.freeing.items ≡ old.freeing.items
-  pub reads : RunsOn g old.device old.meta new.device new.meta
+  pub reads : PreservesRunning g old.device old.meta new.device new.meta
   pub steps : Steps g old new

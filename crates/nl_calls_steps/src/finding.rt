@@ -1,10 +1,10 @@
 ghost use Rattle.std.specs.Prelude.{◌≡◌, IfOk};
 ghost use Rattle.nl_meta_running.specs.Reading.{stop_of};
-ghost use Rattle.nl_meta_running.specs.Running.{IsUsed};
+ghost use Rattle.nl_meta_running.specs.Running.{IsUsedNode};
 ghost use Rattle.nl_core.specs.Core.{IsCore};
 ghost use Rattle.nl_calls_steps.specs.Steps.{ReadsOn};
 ghost use Rattle.nl_calls_steps.specs.Answers.{EndsEarly};
-ghost use Rattle.nl_calls_steps.specs.Finding.{IsFileOrNot, IsFound};
+ghost use Rattle.nl_calls_steps.specs.Finding.{IsFileOrNot, IsFoundFile};
 
 use crate::answer::Found;
 use crate::reading::{look_up, open_node};
@@ -22,7 +22,7 @@ pub fn find_file<D: MovingPages>(core: &mut Core<D>, path: &Path) -> Result<Foun
     requires core { IsCore D.Counts core.old }
     ensures core { IsCore D.Counts core.new }
     ensures same { ReadsOn D.Counts core.old core.new }
-    ensures found { IfOk result (IsFound D.Counts core.old path.now) }
+    ensures found { IfOk result (IsFoundFile D.Counts core.old path.now) }
     ensures early { EndsEarly D.Counts core.old core.new (stop_of result) }
 {
     looks_in_tree();
@@ -42,7 +42,7 @@ pub fn find_file<D: MovingPages>(core: &mut Core<D>, path: &Path) -> Result<Foun
 // A node that is used, as a file or not.
 fn file_or_not<D: MovingPages>(core: &mut Core<D>, ino: u32) -> Result<Found, Stop>
     requires core { IsCore D.Counts core.old }
-    requires used { IsUsed D.Counts core.old.device core.old.meta ino }
+    requires used { IsUsedNode D.Counts core.old.device core.old.meta ino }
     ensures core { IsCore D.Counts core.new }
     ensures same { ReadsOn D.Counts core.old core.new }
     ensures found { IfOk result (IsFileOrNot D.Counts core.old ino) }

@@ -2,7 +2,7 @@ ghost use Rattle.std.specs.Prelude.{◌≡◌, ◌+◌, ◌<◌, ◌≤◌, leng
 ghost use Rattle.nl_flight.specs.Flight.{IsFlight, of_worker};
 ghost use Rattle.nl_iface.specs.Calls.{StoresPages};
 ghost use Rattle.nl_core.specs.Core.{IsCore};
-ghost use Rattle.nl_calls_steps.specs.Installing.{HasRoom, InstallsPage, IsAtHand, IsPageOfFile, page_in, with_landed};
+ghost use Rattle.nl_calls_steps.specs.Installing.{HasRoomToInstall, InstallsPage, FilePointerIsResident, IsPageOfFile, page_in, with_landed};
 
 use nl_calls_files::take_page;
 use nl_core::Core;
@@ -25,9 +25,9 @@ pub fn install_page<D: MovingPages>(
     requires lines { IsFlight core.old.flight }
     requires known { worker < 8 }
     requires some { place < length (of_worker core.old.flight worker).pages }
-    requires hand { IsAtHand D.Counts core.old ino (page_in core.old worker place).index rec.old }
+    requires hand { FilePointerIsResident D.Counts core.old ino (page_in core.old worker place).index rec.old }
     requires page { IsPageOfFile D.Counts core.old ino rec.old (page_in core.old worker place) }
-    requires room { HasRoom D.Counts core.old ino rec.old (page_in core.old worker place) }
+    requires room { HasRoomToInstall D.Counts core.old ino rec.old (page_in core.old worker place) }
     requires size { size ≤ 16809984 }
     ensures core { IsCore D.Counts (with_landed core.new worker (place + 1)) }
     ensures installs { InstallsPage D.Counts ino size (page_in core.old worker place) rec.old rec.new core.old core.new }

@@ -6,7 +6,7 @@ ghost use Rattle.nl_core.specs.Core.{IsCore};
 ghost use Rattle.nl_calls_steps.specs.Answers.{EndsEarly};
 ghost use Rattle.nl_calls_steps.specs.Finding.{IsSomeFile};
 ghost use Rattle.nl_calls_files.specs.Fits.{IsFileOf};
-ghost use Rattle.nl_calls_steps.specs.Paging.{HasPage};
+ghost use Rattle.nl_calls_steps.specs.Paging.{ArePageBytes};
 ghost use Rattle.nl_calls_steps.specs.Steps.{ReadsOn};
 
 use crate::reading::{open_node, read_file};
@@ -34,7 +34,7 @@ pub fn read_page<D: MovingPages>(
     requires whole { length out.old ≡ 4096 }
     ensures core { IsCore D.Counts core.new }
     ensures same { ReadsOn D.Counts core.old core.new }
-    ensures page { OnOk result (HasPage D.Counts core.old ino index out.new) }
+    ensures page { OnOk result (ArePageBytes D.Counts core.old ino index out.new) }
     ensures early { EndsEarly D.Counts core.old core.new (stop_of result) }
 {
     device_stands(&core.device);
@@ -63,7 +63,7 @@ fn read_head<D: MovingPages>(
     requires whole { length out.old ≡ 4096 }
     ensures core { IsCore D.Counts core.new }
     ensures same { ReadsOn D.Counts core.old core.new }
-    ensures page { OnOk result (HasPage D.Counts core.old ino index out.new) }
+    ensures page { OnOk result (ArePageBytes D.Counts core.old ino index out.new) }
     ensures early { EndsEarly D.Counts core.old core.new (stop_of result) }
 {
     let start = PAGE * u64::from(index);

@@ -3,17 +3,17 @@ ghost use Rattle.nl_iface.specs.Calls.{ReadsCounted};
 ghost use Rattle.nl_indirect.specs.Ranges.{HasRange};
 ghost use Rattle.nl_meta.specs.Nodes.{graph_of};
 ghost use Rattle.nl_meta.specs.Pages.{page_of};
-ghost use Rattle.nl_meta_running.specs.Reading.{Reads, stop_of};
-ghost use Rattle.nl_meta_running.specs.Running.{IsDirectoryAt, IsUsed};
+ghost use Rattle.nl_meta_running.specs.Reading.{ReadsExplainStop, stop_of};
+ghost use Rattle.nl_meta_running.specs.Running.{IsDirectoryAt, IsUsedNode};
 ghost use Rattle.nl_files.specs.Answers.{IfPages, IsLostCount, IsLostFile, IsPageStamp, LosesCount, LosesFile};
 ghost use Rattle.nl_files.specs.Reading.{AreBytesFrom, IsWanted, file_page};
 ghost use Rattle.nl_files.specs.Spans.{pointers_from};
 ghost use Rattle.nl_namespace.specs.Listing.{IfListed, ListsNames};
-ghost use Rattle.nl_namespace.specs.Paths.{IfAt, Looks};
+ghost use Rattle.nl_namespace.specs.Paths.{IfNodeAt, Looks};
 ghost use Rattle.nl_namespace.specs.Reading.{listing_stop, look_stop};
 ghost use Rattle.nl_core.specs.Core.{IsCore, running_of};
 ghost use Rattle.nl_calls_files.specs.Fits.{IsFileOf};
-ghost use Rattle.nl_calls_steps.specs.Reading.{IsOpened};
+ghost use Rattle.nl_calls_steps.specs.Reading.{HasRecordThroughout};
 ghost use Rattle.nl_calls_steps.specs.Steps.{ReadsOn};
 
 use nl_core::Core;
@@ -31,8 +31,8 @@ pub fn look_up<D: MovingPages>(core: &mut Core<D>, path: &Path) -> Look
     ensures core { IsCore D.Counts core.new }
     ensures same { ReadsOn D.Counts core.old core.new }
     ensures answer { Looks (graph_of (D.shape core.old.device) (running_of D.Counts core.old)) path.now result }
-    ensures used { IfAt result (IsUsed D.Counts core.old.device core.old.meta) }
-    ensures reads { Reads D.Counts core.old.device core.new.device (look_stop result) }
+    ensures used { IfNodeAt result (IsUsedNode D.Counts core.old.device core.old.meta) }
+    ensures reads { ReadsExplainStop D.Counts core.old.device core.new.device (look_stop result) }
 {
     device_stands(&core.device);
     let answer = look(&mut core.device, &mut core.meta, &core.nodes, path);
@@ -47,7 +47,7 @@ pub fn list_names<D: MovingPages>(core: &mut Core<D>, ino: u32, out: &mut ReplyB
     ensures core { IsCore D.Counts core.new }
     ensures same { ReadsOn D.Counts core.old core.new }
     ensures listed { IfListed result (λ n. ListsNames D.Counts core.old.device core.old.meta ino n out.new) }
-    ensures reads { Reads D.Counts core.old.device core.new.device (listing_stop result) }
+    ensures reads { ReadsExplainStop D.Counts core.old.device core.new.device (listing_stop result) }
 {
     device_stands(&core.device);
     let answer = list(&mut core.device, &mut core.meta, &core.nodes, ino, out);
@@ -58,11 +58,11 @@ pub fn list_names<D: MovingPages>(core: &mut Core<D>, ino: u32, out: &mut ReplyB
 /// The record of a used node, whose page becomes resident.
 pub fn open_node<D: MovingPages>(core: &mut Core<D>, ino: u32) -> Result<InodeRec, Stop>
     requires core { IsCore D.Counts core.old }
-    requires used { IsUsed D.Counts core.old.device core.old.meta ino }
+    requires used { IsUsedNode D.Counts core.old.device core.old.meta ino }
     ensures core { IsCore D.Counts core.new }
     ensures same { ReadsOn D.Counts core.old core.new }
-    ensures node { IfOk result (IsOpened D.Counts core.old core.new ino) }
-    ensures reads { Reads D.Counts core.old.device core.new.device (stop_of result) }
+    ensures node { IfOk result (HasRecordThroughout D.Counts core.old core.new ino) }
+    ensures reads { ReadsExplainStop D.Counts core.old.device core.new.device (stop_of result) }
 {
     device_stands(&core.device);
     match hold(&mut core.device, &mut core.meta, 67 + ino / 16) {

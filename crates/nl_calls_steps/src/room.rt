@@ -2,7 +2,7 @@ ghost use Rattle.std.specs.Prelude.{◌≡◌, ◌≤◌, ◌+◌, ◌^◌, IfOk
 ghost use Rattle.nl_meta.specs.Pages.{besides_0, most};
 ghost use Rattle.nl_meta_running.specs.Reading.{stop_of};
 ghost use Rattle.nl_core.specs.Core.{IsCore};
-ghost use Rattle.nl_core.specs.Goes.{Goes};
+ghost use Rattle.nl_core.specs.Goes.{PreservesVolume};
 ghost use Rattle.nl_calls_steps.specs.Answers.{EndsEarly};
 
 use nl_core::Core;
@@ -19,7 +19,7 @@ pub fn make_room<D: MovingPages>(core: &mut Core<D>) -> Result<(), Stop>
     requires writes { core.old.stopped ≡ 0 }
     requires stamp { D.next_stamp core.old.device + 512 ≤ 2 ^ 63 }
     ensures core { IsCore D.Counts core.new }
-    ensures goes { Goes D.Counts 512 core.old core.new }
+    ensures goes { PreservesVolume D.Counts 512 core.old core.new }
     ensures flight { core.new.flight ≡ core.old.flight }
     ensures room { IfOk result (λ _. length (besides_0 core.new.meta.dirty) + 4 ≤ most) }
     ensures early { EndsEarly D.Counts core.old core.new (stop_of result) }

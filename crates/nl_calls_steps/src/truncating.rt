@@ -4,7 +4,7 @@ ghost use Rattle.nl_flight.specs.Flight.{of_worker};
 ghost use Rattle.nl_iface.specs.Calls.{ReadsCounted};
 ghost use Rattle.nl_files.specs.Answers.{IsLostFile, IsPageStamp, LosesFile};
 ghost use Rattle.nl_core.specs.Core.{IsCore};
-ghost use Rattle.nl_calls_steps.specs.Installing.{IsAtHand};
+ghost use Rattle.nl_calls_steps.specs.Installing.{FilePointerIsResident};
 ghost use Rattle.nl_calls_files.specs.Taking.{HasRoomToTake};
 ghost use Rattle.nl_calls_steps.specs.Truncating.{CutsFileTo, HasPartial, RefusesCut};
 
@@ -32,7 +32,7 @@ pub fn cut_file<D: MovingPages>(
 ) -> FileAnswer
     requires core { IsCore D.Counts core.old }
     requires known { worker < 8 }
-    requires hand { IsAtHand D.Counts core.old ino (size / 4096) rec.old }
+    requires hand { FilePointerIsResident D.Counts core.old ino (size / 4096) rec.old }
     requires partial { HasPartial D.Counts core.old worker ino size rec.old }
     requires room { HasRoomToTake core.old.meta rec.old ino (size / 4096) }
     requires size { size ≤ 16809984 }

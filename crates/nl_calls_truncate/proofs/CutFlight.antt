@@ -9,7 +9,7 @@ use Rattle.nl_flight.specs.declared.page.FlightPage.{FlightPage}
 use Rattle.nl_iface.specs.Names.{Has}
 use Rattle.nl_core.specs.Programming.{with_page}
 use Rattle.nl_core.proofs.Lines.{after, before, carried_own, carried_with, held, of_line}
-use Rattle.nl_calls_steps.specs.Calls.{OthersStay}
+use Rattle.nl_calls_steps.specs.Calls.{OtherLinesStay}
 use Rattle.nl_calls_files.proofs.LinePages.{bare}
 use Rattle.nl_calls_steps.proofs.WorkerLines.{others_put, pages_put, same_line, same_pages}
 
@@ -42,7 +42,7 @@ module _ (old new : List InFlight) (worker line : ℕ) (tag : Tag) (at : Pointer
       (same_pages (of_worker new worker) (of_worker (with_page old worker line tag at) worker) (same_line new (with_page old worker line tag at) same worker)
       ∙ ap (λ (pages : List FlightPage). map bare pages) (pages_put old worker line tag at is known ∙ ap (λ (x : InFlight). x.pages ++ record { index = tag.index; at = at; tag = tag } ∷ []) none))
 
-  pub others_page : OthersStay worker old new
+  pub others_page : OtherLinesStay worker old new
   others_page w far = same_line new (with_page old worker line tag at) same w ∙ ap nameless_line (others_put old worker line tag at is known w far)
 
 -- ---- pages in flight

@@ -19,7 +19,7 @@ use Rattle.nl_meta.specs.Nodes.{body_of, graph_of, pointer_at, pointers_in, poin
 use Rattle.nl_files.proofs.ContentFacts.{pages_by_pointers}
 use Rattle.nl_spec_image.proofs.GraphOfPages.{NodeOf, node_is, node_or_none}
 use Rattle.nl_core.specs.Core.{IsCore, running_of}
-use Rattle.nl_core.specs.Goes.{Goes}
+use Rattle.nl_core.specs.Goes.{PreservesVolume}
 use Rattle.nl_core.specs.declared.state.Core.{Core}
 use Rattle.nl_calls_files.specs.Fits.{IsFileOf}
 use Rattle.nl_calls_files.proofs.Fits.{stands}
@@ -104,7 +104,7 @@ pub record FileGoes {D : Type 0} (g : Ghosts D) (u v : Core D) (n : ℕ) (was : 
   pub size : rec.size ≡ was.size
   pub holes : (i : ℕ) → is_none_pointer (pointer_at (running_of g v) rec i) ≡ is_none_pointer (pointer_at (running_of g u) was i)
 
-module _ {D : Type 0} (g : Ghosts D) (m : ℕ) (u v : Core D) (a : Goes g m u v) where
+module _ {D : Type 0} (g : Ghosts D) (m : ℕ) (u v : Core D) (a : PreservesVolume g m u v) where
   pub leads_back : (path : List (List ℕ)) (n : ℕ) → node_reached (nodes_of g v) 0 path ≡ Some n → node_reached (nodes_of g u) 0 path ≡ Some n
   leads_back path n e = sym (reached_stays (nodes_of g u) (nodes_of g v) a.nodes path 0) ∙ e
 

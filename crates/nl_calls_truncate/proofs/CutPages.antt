@@ -15,9 +15,9 @@ use Rattle.nl_meta.specs.Consistent.{PageOfStamp}
 use Rattle.nl_meta.specs.Nodes.{is_physical_name}
 use Rattle.nl_files.specs.Reading.{file_page}
 use Rattle.nl_core.specs.Core.{IsCore, names_of, running_of}
-use Rattle.nl_core.specs.Goes.{Goes}
+use Rattle.nl_core.specs.Goes.{PreservesVolume}
 use Rattle.nl_core.specs.Laws.{LeadsLive}
-use Rattle.nl_core.specs.Trees.{CoreRuns}
+use Rattle.nl_core.specs.Trees.{CoreRepresentsTree}
 use Rattle.nl_core.specs.declared.state.Core.{Core}
 use Rattle.nl_core.proofs.Lines.{in_flight}
 use Rattle.nl_core.proofs.Standing.{flight_leads}
@@ -25,7 +25,7 @@ use Rattle.nl_calls_files.specs.FileRuns.{EndsClean}
 use Rattle.nl_calls_files.specs.Fits.{IsFileOf}
 use Rattle.nl_calls_steps.specs.Lines.{worker_pages}
 use Rattle.nl_calls_steps.specs.Truncating.{AreCut, HasPartial, IsPartialPage}
-use Rattle.nl_calls_steps.specs.Calls.{RunsAsSome}
+use Rattle.nl_calls_steps.specs.Calls.{RepresentsSomeTree}
 use Rattle.nl_calls_steps.specs.Finding.{nodes_of}
 use Rattle.nl_calls_steps.proofs.FilePages.{at-path, page-shown}
 use Rattle.nl_calls_truncate.specs.Truncating.{CanCut}
@@ -61,7 +61,7 @@ module _ {D : Type 0} (g : Ghosts D) (v : Core D) (core : IsCore g v) (names : I
   abbrev there : List ℕ
   there = file_page g v.device (running_of g v) rec page.index
 
-  module _ (page_of_stamp : ℕ → Option PageOfStamp) (tree : Tree) (path : List (List ℕ)) (at : CoreRuns g v page_of_stamp tree) (leads : node_reached (nodes_of g v) 0 path ≡ Some n) where
+  module _ (page_of_stamp : ℕ → Option PageOfStamp) (tree : Tree) (path : List (List ℕ)) (at : CoreRepresentsTree g v page_of_stamp tree) (leads : node_reached (nodes_of g v) 0 path ≡ Some n) where
     is_shown : page_of_stamp page.at.stamp ≡ Some (record { tag = page.tag; bytes = bytes })
     is_shown = at.shows (led (names_of g v) page.at.name) (record { tag = page.tag; stamp = page.at.stamp }) live.live
 
@@ -86,8 +86,8 @@ module _ {D : Type 0} (g : Ghosts D) (v : Core D) (core : IsCore g v) (names : I
 
 module _ {D : Type 0} (g : Ghosts D) (v : Core D) (core : IsCore g v) (names : IsNames (g.shape v.device) (g.next_stamp v.device) (names_of g v)) (worker n size : ℕ) (rec : InodeRec) (known : worker < 8)
     (file : IsFileOf g v.device v.meta n rec) (partial : HasPartial g v worker n size rec) where
-  pub in_all : (page_of_stamp : ℕ → Option PageOfStamp) (tree : Tree) (path : List (List ℕ)) → CoreRuns g v page_of_stamp tree → node_reached (nodes_of g v) 0 path ≡ Some n
-      → AreCut page_of_stamp (content_of (node_at tree path)) size (worker_pages v worker) → (other : ℕ → Option PageOfStamp) (tree_ : Tree) (path_ : List (List ℕ)) → CoreRuns g v other tree_ → node_reached (nodes_of g v) 0 path_ ≡ Some n
+  pub in_all : (page_of_stamp : ℕ → Option PageOfStamp) (tree : Tree) (path : List (List ℕ)) → CoreRepresentsTree g v page_of_stamp tree → node_reached (nodes_of g v) 0 path ≡ Some n
+      → AreCut page_of_stamp (content_of (node_at tree path)) size (worker_pages v worker) → (other : ℕ → Option PageOfStamp) (tree_ : Tree) (path_ : List (List ℕ)) → CoreRepresentsTree g v other tree_ → node_reached (nodes_of g v) 0 path_ ≡ Some n
       → AreCut other (content_of (node_at tree_ path_)) size (worker_pages v worker)
   in_all page_of_stamp tree path at leads cut other tree_ path_ at_ leads_ = ⊎_elim
       (λ none. subst (λ (pages : List FlightPage). AreCut other (content_of (node_at tree_ path_)) size pages) (sym none.0) (none_cut other (content_of (node_at tree_ path_)) size))
@@ -123,9 +123,9 @@ module _ {D : Type 0} (g : Ghosts D) (u v : Core D) (same_shape : g.shape v.devi
   pub partial_on : HasPartial g u worker n size rec → HasPartial g v worker n size on.rec
   partial_on partial = ⊎_elim (λ none. inl (same_pages ∙ none.0, ends_on none.1)) (λ one. inr (one.0, same_pages ∙ one.1, page_on one.0 one.2)) partial
 
-module _ {D : Type 0} (g : Ghosts D) (u v : Core D) (most : ℕ) (goes : Goes g most u v) (core : IsCore g u) (core_v : IsCore g v) (names_v : IsNames (g.shape v.device) (g.next_stamp v.device) (names_of g v)) (same_flight : v.flight ≡ u.flight)
+module _ {D : Type 0} (g : Ghosts D) (u v : Core D) (most : ℕ) (goes : PreservesVolume g most u v) (core : IsCore g u) (core_v : IsCore g v) (names_v : IsNames (g.shape v.device) (g.next_stamp v.device) (names_of g v)) (same_flight : v.flight ≡ u.flight)
     (worker n size : ℕ) (known : worker < 8) where
-  pub can_cut_on : RunsAsSome g u → CanCut g u worker n size → CanCut g v worker n size
+  pub can_cut_on : RepresentsSomeTree g u → CanCut g u worker n size → CanCut g v worker n size
   can_cut_on runs can =
       let on = file_goes g most u v goes core core_v n can.rec can.file in
       let partial = partial_on g u v goes.same_shape same_flight worker n size can.rec on can.partial in

@@ -14,10 +14,10 @@ use Rattle.nl_iface.specs.declared.counts.Counts.{Ghosts}
 use Rattle.nl_meta.specs.Consistent.{PageOfStamp}
 use Rattle.nl_meta.specs.Nodes.{pointer_at}
 use Rattle.nl_core.specs.Core.{IsCore, names_of, running_of}
-use Rattle.nl_core.specs.Goes.{Goes}
+use Rattle.nl_core.specs.Goes.{PreservesVolume}
 use Rattle.nl_core.specs.Laws.{LeadsLive}
 use Rattle.nl_core.specs.Programming.{PutsInFlight}
-use Rattle.nl_core.specs.Trees.{CoreRuns}
+use Rattle.nl_core.specs.Trees.{CoreRepresentsTree}
 use Rattle.nl_core.specs.declared.state.Core.{Core}
 use Rattle.nl_core.proofs.Lines.{in_flight}
 use Rattle.nl_core.proofs.Standing.{flight_leads}
@@ -25,7 +25,7 @@ use Rattle.nl_calls_files.specs.FileRuns.{EndsClean}
 use Rattle.nl_calls_files.specs.Fits.{IsFileOf}
 use Rattle.nl_calls_steps.specs.Lines.{worker_pages}
 use Rattle.nl_calls_steps.specs.Truncating.{AreCut, HasPartial}
-use Rattle.nl_calls_steps.specs.Calls.{RunsAsSome}
+use Rattle.nl_calls_steps.specs.Calls.{RepresentsSomeTree}
 use Rattle.nl_calls_steps.specs.Finding.{nodes_of}
 use Rattle.nl_calls_truncate.specs.Truncating.{CanCut, HasCutPage}
 use Rattle.nl_calls_truncate.proofs.CutFlight.{IsOnePage, one_page, page_carried}
@@ -45,9 +45,9 @@ can_without g v worker n size rec none file clean =
     }
 
 -- the page in which the file ends then is in flight
-module _ {D : Type 0} (g : Ghosts D) (u v w : Core D) (core : IsCore g u) (core_v : IsCore g v) (core_w : IsCore g w) (names_w : IsNames (g.shape w.device) (g.next_stamp w.device) (names_of g w)) (most : ℕ) (goes : Goes g most u w)
+module _ {D : Type 0} (g : Ghosts D) (u v w : Core D) (core : IsCore g u) (core_v : IsCore g v) (core_w : IsCore g w) (names_w : IsNames (g.shape w.device) (g.next_stamp w.device) (names_of g w)) (most : ℕ) (goes : PreservesVolume g most u w)
     (worker line n size : ℕ) (rec : InodeRec) (tag : Tag) (main : List ℕ) (known : worker < 8) (none : of_worker v.flight worker ≡ begun 0) (file : IsFileOf g u.device u.meta n rec) (puts : PutsInFlight g worker line tag main v w)
-    (made : HasCutPage g u n size main) (runs : RunsAsSome g u) (is_tag : tag ≡ record { ino = n; generation = rec.generation; index = size / 4096 }) (inside : size / 4096 < 4104) (within : size % 4096 ≢ 0)
+    (made : HasCutPage g u n size main) (runs : RepresentsSomeTree g u) (is_tag : tag ≡ record { ino = n; generation = rec.generation; index = size / 4096 }) (inside : size / 4096 < 4104) (within : size % 4096 ≢ 0)
     (had : is_none_pointer (pointer_at (running_of g u) rec (size / 4096)) ≡ false) where
   one : IsOnePage w.flight worker tag puts.at.stamp
   one = one_page v.flight w.flight worker line tag puts.at core_v.flight known puts.flight none
@@ -94,7 +94,7 @@ module _ {D : Type 0} (g : Ghosts D) (u v w : Core D) (core : IsCore g u) (core_
     is_main : main ≡ cut_page size page.index (page_bytes content page.index)
     is_main = made tells (runs tells).0 tree path (runs tells).2 (leads_back g most u w goes path n leads) ∙ ap (λ (i : ℕ). cut_page size i (page_bytes content i)) (sym index)
 
-    cut : (page_of_stamp : ℕ → Option PageOfStamp) → CoreRuns g w page_of_stamp tree → AreCut page_of_stamp content size (worker_pages w worker)
+    cut : (page_of_stamp : ℕ → Option PageOfStamp) → CoreRepresentsTree g w page_of_stamp tree → AreCut page_of_stamp content size (worker_pages w worker)
     cut page_of_stamp at =
         let bytes = puts.bytes tells ∙ is_main in
         let tagged = sym one.tagged in

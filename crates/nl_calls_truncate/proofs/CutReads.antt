@@ -22,10 +22,10 @@ use Rattle.nl_meta.proofs.NodeProofs.{same_rec}
 use Rattle.nl_meta_running.specs.declared.answer.Stop.{Stop}
 use Rattle.nl_meta_running.proofs.GraphStays.{graph-same}
 use Rattle.nl_meta_running.proofs.Holds.{bounds-of}
-use Rattle.nl_spec_commits.specs.Trees.{RunsAs}
+use Rattle.nl_spec_commits.specs.Trees.{RepresentsTree}
 use Rattle.nl_spec_commits.proofs.Trees.{runs_alike}
 use Rattle.nl_core.specs.Core.{IsCore, running_of}
-use Rattle.nl_core.specs.Goes.{Goes}
+use Rattle.nl_core.specs.Goes.{PreservesVolume}
 use Rattle.nl_core.specs.declared.state.Core.{Core}
 use Rattle.nl_core.proofs.Onward.{goes_more, goes_then}
 use Rattle.nl_calls_files.specs.Fits.{IsFileOf}
@@ -33,18 +33,18 @@ use Rattle.nl_calls_files.specs.Taking.{HasRoomToTake, clean_at, clean_of}
 use Rattle.nl_calls_steps.specs.Steps.{ReadsOn}
 use Rattle.nl_calls_steps.specs.Truncating.{AreCut, CutsFileTo, HasPartial, RefusesCut}
 use Rattle.nl_calls_steps.proofs.Stepping.{read_alike, steps_then}
-use Rattle.nl_calls_steps.specs.Calls.{OthersStay, RunsAsSome}
+use Rattle.nl_calls_steps.specs.Calls.{OtherLinesStay, RepresentsSomeTree}
 use Rattle.nl_calls_steps.specs.Finding.{nodes_of}
 use Rattle.nl_calls_steps.proofs.WorkerLines.{same_line}
 use Rattle.nl_calls_steps.proofs.Going.{others_same, others_then}
 use Rattle.nl_calls_steps.proofs.LeavesTree.{reads_go, step_goes}
 use Rattle.nl_calls_steps.proofs.OnlyReads.{same-nodes}
 use Rattle.nl_calls_steps.proofs.ReadCores.{runs-then}
-use Rattle.nl_calls_truncate.specs.Truncating.{CanCut, CanTruncate, IsCut, IsUncut}
+use Rattle.nl_calls_truncate.specs.Truncating.{CanCut, CanTruncate, IsCutInTree, IsUncut}
 use Rattle.nl_calls_truncate.proofs.CutNodes.{file_goes}
 use Rattle.nl_calls_truncate.proofs.CutPages.{partial_on}
 
-pub some_on : {D : Type 0} (g : Ghosts D) (u v : Core D) (m : ℕ) → Goes g m u v → RunsAsSome g u → RunsAsSome g v
+pub some_on : {D : Type 0} (g : Ghosts D) (u v : Core D) (m : ℕ) → PreservesVolume g m u v → RepresentsSomeTree g u → RepresentsSomeTree g v
 some_on g u v m goes runs = λ tells.
     let some = runs tells in
     let k = goes.runs tells some.0 some.1 some.2 in
@@ -56,14 +56,14 @@ flight_on {D} g u v on = ap (λ (x : Core D). x.flight) on.others
 -- ---- what goes on after reads
 
 module _ {D : Type 0} (g : Ghosts D) (u v w : Core D) (core : IsCore g u) (volume : IsVolumeShape (g.shape u.device)) (formed : g.formed v.device) (stores : g.tells → StoresPages g v.device) (on : ReadsOn g u v) where
-  pub goes_read : (m : ℕ) → Goes g m v w → Goes g m u w
+  pub goes_read : (m : ℕ) → PreservesVolume g m v w → PreservesVolume g m u w
   goes_read m goes = goes_more g (0 + m) m u w (omega arith) (goes_then g u v w 0 m (reads_go g u v core volume formed stores on) goes)
 
-  pub others_read : (worker : ℕ) → OthersStay worker v.flight w.flight → OthersStay worker u.flight w.flight
+  pub others_read : (worker : ℕ) → OtherLinesStay worker v.flight w.flight → OtherLinesStay worker u.flight w.flight
   others_read worker stay = others_then worker u.flight v.flight w.flight (others_same worker u.flight v.flight (flight_on g u v on)) stay
 
 -- a truncate that could be made can be made after reads
-pub can_on : {D : Type 0} (g : Ghosts D) (u v : Core D) (worker line : ℕ) → Goes g 0 u v → ReadsOn g u v → CanTruncate g u worker line → CanTruncate g v worker line
+pub can_on : {D : Type 0} (g : Ghosts D) (u v : Core D) (worker line : ℕ) → PreservesVolume g 0 u v → ReadsOn g u v → CanTruncate g u worker line → CanTruncate g v worker line
 can_on {D} g u v worker line goes on can = record {
   writes = ap (λ (x : Core D). x.stopped) on.others ∙ can.writes;
   runs = some_on g u v 0 goes can.runs;
@@ -72,7 +72,7 @@ can_on {D} g u v worker line goes on can = record {
   none = ap (λ (f : List InFlight). of_worker f worker) (flight_on g u v on) ∙ can.none;
 }
 
-pub others_kept : (worker : ℕ) (old new : List InFlight) → map nameless_line new ≡ map nameless_line old → OthersStay worker old new
+pub others_kept : (worker : ℕ) (old new : List InFlight) → map nameless_line new ≡ map nameless_line old → OtherLinesStay worker old new
 others_kept worker old new same w far = same_line new old same w
 
 -- ---- the page of the pointer, and room
@@ -112,7 +112,7 @@ module _ {D : Type 0} (g : Ghosts D) (u v : Core D) (core : IsCore g u) (core_v 
       (partial_on g u v goes.same_shape (flight_on g u v on) worker n size can.rec k can.partial)
 
   module _ (w : Core D) where
-    pub cut_then : (can : CanCut g u worker n size) (was is : InodeRec) → CutsFileTo g worker n size was is v w → IsCut g worker n size u w
+    pub cut_then : (can : CanCut g u worker n size) (was is : InodeRec) → CutsFileTo g worker n size was is v w → IsCutInTree g worker n size u w
     cut_then can was is cuts = record {
       steps = steps_then g u v w (read_alike g u v volume core_v.formed stores on).steps cuts.steps;
       flight = ap (λ (x : Core D). x.flight) cuts.others ∙ ap (λ (flight : List InFlight). with_line flight worker (begun 0)) (flight_on g u v on);
@@ -139,14 +139,14 @@ module _ {D : Type 0} (g : Ghosts D) (v w : Core D) (core : IsCore g v) (volume 
   pub uncut_refused : IsUncut g v w
   uncut_refused = record {
     goes = step_goes g v w core volume refused.steps same_graph
-        (λ page_of_stamp tree runs. subst (λ (h : Shape). RunsAs h (running_of g w) page_of_stamp tree) (sym same_shape) (runs_alike (g.shape v.device) (running_of g v) (running_of g w) page_of_stamp tree refused.reads.needed runs));
+        (λ page_of_stamp tree runs. subst (λ (h : Shape). RepresentsTree h (running_of g w) page_of_stamp tree) (sym same_shape) (runs_alike (g.shape v.device) (running_of g v) (running_of g w) page_of_stamp tree refused.reads.needed runs));
     flight = ap (λ (x : Core D). x.flight) refused.others;
   }
 
 -- ---- either way
 
 -- lines of others stay where the file is cut, and where it is not
-pub others_either : {D : Type 0} (g : Ghosts D) (worker n size : ℕ) (v w : Core D) (r : Result ℕ Stop) → IfOk r (λ files. IsCut g worker n size v w) → OnErr r (IsUncut g v w) → OthersStay worker v.flight w.flight
+pub others_either : {D : Type 0} (g : Ghosts D) (worker n size : ℕ) (v w : Core D) (r : Result ℕ Stop) → IfOk r (λ files. IsCutInTree g worker n size v w) → OnErr r (IsUncut g v w) → OtherLinesStay worker v.flight w.flight
 others_either g worker n size v w (Ok files) cut uncut = λ u far. ap (λ (flight : List InFlight). nameless_line (of_worker flight u)) cut.flight ∙ ap nameless_line (get_or-set_other v.flight worker u (begun 0) (begun 0) far)
 others_either g worker n size v w (Err s) cut uncut = others_same worker v.flight w.flight uncut.flight
 

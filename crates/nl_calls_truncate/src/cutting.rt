@@ -8,13 +8,13 @@ ghost use Rattle.nl_meta.specs.Nodes.{pointer_at};
 ghost use Rattle.nl_meta.specs.Pages.{page_of};
 ghost use Rattle.nl_meta_running.specs.Reading.{stop_of};
 ghost use Rattle.nl_core.specs.Core.{IsCore, running_of};
-ghost use Rattle.nl_core.specs.Goes.{Goes};
+ghost use Rattle.nl_core.specs.Goes.{PreservesVolume};
 ghost use Rattle.nl_core.specs.Programming.{last_stamp};
 ghost use Rattle.nl_calls_files.specs.Fits.{IsFileOf};
 ghost use Rattle.nl_calls_steps.specs.Steps.{ReadsOn};
 ghost use Rattle.nl_calls_steps.specs.Answers.{EndsEarly};
 ghost use Rattle.nl_calls_steps.specs.Finding.{IsSomeFile};
-ghost use Rattle.nl_calls_steps.specs.Calls.{OthersStay};
+ghost use Rattle.nl_calls_steps.specs.Calls.{OtherLinesStay};
 ghost use Rattle.nl_calls_truncate.specs.Truncating.{CanCut, CanTruncate, HasCutPage, IsOpenFile};
 
 use nl_calls_steps::{open_node, prepare_file, read_page};
@@ -47,9 +47,9 @@ pub(crate) fn put_cut<D: MovingPages>(
     requires file { IsSomeFile D.Counts core.old ino }
     requires size { size ≤ 16809984 }
     ensures core { IsCore D.Counts core.new }
-    ensures goes { Goes D.Counts (2 ^ 30) core.old core.new }
+    ensures goes { PreservesVolume D.Counts (2 ^ 30) core.old core.new }
     ensures ready { OnOk result (CanCut D.Counts core.new worker ino size) }
-    ensures others { OthersStay worker core.old.flight core.new.flight }
+    ensures others { OtherLinesStay worker core.old.flight core.new.flight }
     ensures early { EndsEarly D.Counts core.old core.new (stop_of result) }
 {
     let rec = open_file(core, ino)?;
@@ -141,9 +141,9 @@ fn program_cut<D: MovingPages>(
     requires within { size % 4096 ≢ 0 }
     requires had { is_none_pointer (pointer_at (running_of D.Counts core.old) rec.now (size / 4096)) ≡ false }
     ensures core { IsCore D.Counts core.new }
-    ensures goes { Goes D.Counts (2 ^ 30) core.old core.new }
+    ensures goes { PreservesVolume D.Counts (2 ^ 30) core.old core.new }
     ensures ready { OnOk result (CanCut D.Counts core.new worker ino size) }
-    ensures others { OthersStay worker core.old.flight core.new.flight }
+    ensures others { OtherLinesStay worker core.old.flight core.new.flight }
     ensures early { EndsEarly D.Counts core.old core.new (stop_of result) }
 {
     make_cut(core, ino, size, page)?;

@@ -8,15 +8,15 @@ ghost use Rattle.nl_iface.specs.Device.{IsVolumeShape};
 ghost use Rattle.nl_meta.specs.Pages.{besides_0, most};
 ghost use Rattle.nl_meta_running.specs.Reading.{stop_of};
 ghost use Rattle.nl_core.specs.Core.{IsCore};
-ghost use Rattle.nl_core.specs.Goes.{Goes};
-ghost use Rattle.nl_calls_steps.specs.Installing.{IsAtHand};
+ghost use Rattle.nl_core.specs.Goes.{PreservesVolume};
+ghost use Rattle.nl_calls_steps.specs.Installing.{FilePointerIsResident};
 ghost use Rattle.nl_calls_steps.specs.Steps.{ReadsOn};
 ghost use Rattle.nl_calls_files.specs.Taking.{HasRoomToTake};
 ghost use Rattle.nl_calls_steps.specs.Truncating.{CutsFileTo, HasPartial};
 ghost use Rattle.nl_calls_steps.specs.Answers.{EndsEarly};
-ghost use Rattle.nl_calls_steps.specs.Calls.{HasPagesOfFiles, IfDone, IfUndone, OthersStay, RunsAsSome, TakesCall, stop_in};
-ghost use Rattle.nl_calls_steps.specs.Finding.{IsFound, IsSomeFile, nodes_of};
-ghost use Rattle.nl_calls_truncate.specs.Truncating.{AnswersTruncate, CanCut, CanTruncate, CutsFile, IsCut, IsUncut, Truncates};
+ghost use Rattle.nl_calls_steps.specs.Calls.{HasPagesOfFiles, IfWritten, IfUndone, OtherLinesStay, RepresentsSomeTree, TakesCall, stop_in};
+ghost use Rattle.nl_calls_steps.specs.Finding.{IsFoundFile, IsSomeFile, nodes_of};
+ghost use Rattle.nl_calls_truncate.specs.Truncating.{AnswersTruncate, CanCut, CanTruncate, CutsFile, IsCutInTree, IsUncut, Truncates};
 
 use crate::cutting::{hold_end, open_file, put_cut};
 use nl_calls_steps::{Found, Written, cut_file, find_file, make_room};
@@ -50,16 +50,16 @@ pub fn truncate_call<D: MovingPages>(
     requires core { IsCore D.Counts core.old }
     requires writes { core.old.stopped ≡ 0 }
     requires stamp { D.next_stamp core.old.device < 2 ^ 62 }
-    requires runs { RunsAsSome D.Counts core.old }
+    requires runs { RepresentsSomeTree D.Counts core.old }
     requires known { worker < 8 }
     requires some { 0 < line }
     requires files { HasPagesOfFiles D.Counts core.old files }
     ensures core { IsCore D.Counts core.new }
-    ensures done { IfDone result (λ now. TakesCall D.Counts worker (Truncate path.now size) core.old core.new
+    ensures done { IfWritten result (λ now. TakesCall D.Counts worker (Truncate path.now size) core.old core.new
         × HasPagesOfFiles D.Counts core.new now) }
-    ensures undone { IfUndone result (Goes D.Counts (2 ^ 40) core.old core.new × HasPagesOfFiles D.Counts core.new files) }
+    ensures undone { IfUndone result (PreservesVolume D.Counts (2 ^ 40) core.old core.new × HasPagesOfFiles D.Counts core.new files) }
     ensures answer { AnswersTruncate D.Counts path.now size core.old result }
-    ensures others { OthersStay worker core.old.flight core.new.flight }
+    ensures others { OtherLinesStay worker core.old.flight core.new.flight }
     ensures early { EndsEarly D.Counts core.old core.new (stop_in result) }
 {
     core.drop_line(worker);
@@ -97,7 +97,7 @@ fn find_there<D: MovingPages>(core: &mut Core<D>, path: &Path) -> Result<Found, 
     ensures volume { IsVolumeShape (D.shape core.old.device) }
     ensures stores { D.tells → StoresPages D.Counts core.new.device }
     ensures same { ReadsOn D.Counts core.old core.new }
-    ensures found { IfOk result (IsFound D.Counts core.old path.now) }
+    ensures found { IfOk result (IsFoundFile D.Counts core.old path.now) }
     ensures early { EndsEarly D.Counts core.old core.new (stop_of result) }
 {
     device_stands(&core.device);
@@ -156,8 +156,8 @@ fn truncate_file<D: MovingPages>(
     ensures core { IsCore D.Counts core.new }
     ensures cut { IfOk result (λ n. CutsFile D.Counts (2 ^ 31) worker ino size core.old core.new) }
     ensures files { IfOk result (HasPagesOfFiles D.Counts core.new) }
-    ensures uncut { OnErr result (Goes D.Counts (2 ^ 31) core.old core.new) }
-    ensures others { OthersStay worker core.old.flight core.new.flight }
+    ensures uncut { OnErr result (PreservesVolume D.Counts (2 ^ 31) core.old core.new) }
+    ensures others { OtherLinesStay worker core.old.flight core.new.flight }
     ensures early { EndsEarly D.Counts core.old core.new (stop_of result) }
 {
     put_cut(core, worker, line, ino, size, page)?;
@@ -184,7 +184,7 @@ fn cut_now<D: MovingPages>(
     requires room { length (besides_0 core.old.meta.dirty) + 4 ≤ most }
     requires files { HasPagesOfFiles D.Counts core.old files }
     ensures core { IsCore D.Counts core.new }
-    ensures cut { IfOk result (λ n. IsCut D.Counts worker ino size core.old core.new) }
+    ensures cut { IfOk result (λ n. IsCutInTree D.Counts worker ino size core.old core.new) }
     ensures files { IfOk result (HasPagesOfFiles D.Counts core.new) }
     ensures uncut { OnErr result (IsUncut D.Counts core.old core.new) }
     ensures early { EndsEarly D.Counts core.old core.new (stop_of result) }
@@ -205,7 +205,7 @@ fn cut_held<D: MovingPages>(
 ) -> Result<u32, Stop>
     requires core { IsCore D.Counts core.old }
     requires known { worker < 8 }
-    requires hand { IsAtHand D.Counts core.old ino (size / 4096) rec.old }
+    requires hand { FilePointerIsResident D.Counts core.old ino (size / 4096) rec.old }
     requires partial { HasPartial D.Counts core.old worker ino size rec.old }
     requires room { HasRoomToTake core.old.meta rec.old ino (size / 4096) }
     requires size { size ≤ 16809984 }

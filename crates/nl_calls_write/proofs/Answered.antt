@@ -20,7 +20,7 @@ use Rattle.nl_meta.specs.Consistent.{PageOfStamp}
 use Rattle.nl_meta.specs.Nodes.{held_in}
 use Rattle.nl_meta.specs.PointerLists.{with_tag}
 use Rattle.nl_core.specs.Core.{IsCore, running_of}
-use Rattle.nl_core.specs.Trees.{CoreRuns}
+use Rattle.nl_core.specs.Trees.{CoreRepresentsTree}
 use Rattle.nl_core.specs.declared.state.Core.{Core}
 use Rattle.nl_calls_files.specs.FileTrees.{held_content}
 use Rattle.nl_calls_files.specs.Fits.{IsFileOf}
@@ -45,7 +45,7 @@ and_false true = refl
 and_false false = refl
 
 module _ {D : Type 0} (g : Ghosts D) (v : Core D) (core : IsCore g v) (n : ℕ) (rec : InodeRec) (is : IsFileOf g v.device v.meta n rec) (call : Call) (w : IsWriting call) (short : is_too_long (path_of call) ≡ false)
-    (leads : node_reached (nodes_of g v) 0 (path_of call) ≡ Some n) (looks : LooksRefuseAll) (page_of_stamp : ℕ → Option PageOfStamp) (tree : Tree) (at : CoreRuns g v page_of_stamp tree) where
+    (leads : node_reached (nodes_of g v) 0 (path_of call) ≡ Some n) (looks : LooksRefuseAll) (page_of_stamp : ℕ → Option PageOfStamp) (tree : Tree) (at : CoreRepresentsTree g v page_of_stamp tree) where
   abbrev shape : Shape
   shape = g.shape v.device
 

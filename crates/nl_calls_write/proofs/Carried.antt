@@ -9,18 +9,18 @@ use Rattle.nl_iface.specs.Names.{Names, place_of}
 use Rattle.nl_iface.specs.declared.counts.Counts.{Ghosts}
 use Rattle.nl_meta.proofs.Lists.{some_in}
 use Rattle.nl_core.specs.Core.{IsCore}
-use Rattle.nl_core.specs.Goes.{Goes}
-use Rattle.nl_core.specs.Programming.{HasLine}
+use Rattle.nl_core.specs.Goes.{PreservesVolume}
+use Rattle.nl_core.specs.Programming.{HasLineOrNone}
 use Rattle.nl_core.specs.declared.state.Core.{Core}
 use Rattle.nl_calls_files.specs.Fits.{IsFileOf}
 use Rattle.nl_calls_steps.specs.Lines.{worker_pages}
 use Rattle.nl_calls_steps.specs.Steps.{ReadsOn}
-use Rattle.nl_calls_steps.specs.Calls.{OthersStay, RunsAsSome}
+use Rattle.nl_calls_steps.specs.Calls.{OtherLinesStay, RepresentsSomeTree}
 use Rattle.nl_calls_steps.specs.Finding.{IsOfGeneration}
 use Rattle.nl_calls_steps.proofs.Going.{files_on, generation_on, others_same}
 use Rattle.nl_calls_write.specs.Calls.{AreStaged, CanWriteLine}
 use Rattle.nl_calls_bytes.specs.InFlight.{AreOfCall, AreWritten, HasAll}
-use Rattle.nl_calls_write.specs.Lines.{IsLineOfCall, PutsOn, RunsWritten}
+use Rattle.nl_calls_write.specs.Lines.{IsLineOfCall, PutsOn, RepresentsWritten}
 use Rattle.nl_calls_write.specs.Making.{content_at}
 use Rattle.nl_calls_write.proofs.OnePage.{flight_same, reads_first}
 
@@ -36,7 +36,7 @@ module _ {D : Type 0} (g : Ghosts D) (u v : Core D) (core : IsCore g u) (volume 
   pub stamp_on : (n : ℕ) → g.next_stamp u.device < n → g.next_stamp v.device < n
   stamp_on n low = let same = reads.runs.reads.medium.next_stamp in omega (arith, same, low)
 
-  pub runs_on : RunsAsSome g u → RunsAsSome g v
+  pub runs_on : RepresentsSomeTree g u → RepresentsSomeTree g v
   runs_on runs = λ tells.
       let r = runs tells in
       let k = (reads_first g u v core volume formed stores reads).runs tells r.0 r.1 r.2 in
@@ -45,10 +45,10 @@ module _ {D : Type 0} (g : Ghosts D) (u v : Core D) (core : IsCore g u) (volume 
   pub few_on : ((w : ℕ) → length (of_worker u.flight w).pages ≤ 16) → (w : ℕ) → length (of_worker v.flight w).pages ≤ 16
   few_on few = subst (λ (f : List InFlight). (w : ℕ) → length (of_worker f w).pages ≤ 16) (sym same_flight) few
 
-  pub line_on : (worker line : ℕ) → HasLine u.flight worker line → HasLine v.flight worker line
-  line_on worker line has = subst (λ (f : List InFlight). HasLine f worker line) (sym same_flight) has
+  pub line_on : (worker line : ℕ) → HasLineOrNone u.flight worker line → HasLineOrNone v.flight worker line
+  line_on worker line has = subst (λ (f : List InFlight). HasLineOrNone f worker line) (sym same_flight) has
 
-  pub others_on : (worker : ℕ) → OthersStay worker u.flight v.flight
+  pub others_on : (worker : ℕ) → OtherLinesStay worker u.flight v.flight
   others_on worker = others_same worker u.flight v.flight same_flight
 
   pub staged_on : (worker : ℕ) (call : Call) → AreStaged g u call (worker_pages u worker) → AreStaged g v call (worker_pages v worker)
@@ -80,8 +80,8 @@ module _ {D : Type 0} (g : Ghosts D) (u v : Core D) (core : IsCore g u) (volume 
 
 -- ---- the lines are as before
 
-module _ {D : Type 0} (g : Ghosts D) (m : ℕ) (u v : Core D) (a : Goes g m u v) (same : v.flight ≡ u.flight) (worker : ℕ) (call : Call) where
-  pub written_on : RunsWritten g worker call u → RunsWritten g worker call v
+module _ {D : Type 0} (g : Ghosts D) (m : ℕ) (u v : Core D) (a : PreservesVolume g m u v) (same : v.flight ≡ u.flight) (worker : ℕ) (call : Call) where
+  pub written_on : RepresentsWritten g worker call u → RepresentsWritten g worker call v
   written_on written = λ tells.
       let r = written tells in
       let k = a.runs tells r.2.pages r.1 r.2.runs in (
@@ -113,7 +113,7 @@ of_record g v n worker call rec l f = subst (λ (r : InodeRec). AreOfCall n r.ge
 -- ---- pages were put
 
 module _ {D : Type 0} (g : Ghosts D) (m worker : ℕ) (call : Call) (u v : Core D) (a : PutsOn g m worker call u v) where
-  pub written_put : RunsWritten g worker call u → RunsWritten g worker call v
+  pub written_put : RepresentsWritten g worker call u → RepresentsWritten g worker call v
   written_put written = λ tells.
       let r = written tells in
       let k = a.written tells r.2.pages r.1 r.2.runs r.2.written in

@@ -37,10 +37,10 @@ use Rattle.nl_meta.proofs.Lists.{map-member, member-map, member-range, range-mem
 use Rattle.nl_meta_running.proofs.Holds.{bounds-of}
 use Rattle.nl_spec_image.specs.Stands.{bytes_for}
 use Rattle.nl_journal_commit.specs.Holding.{running_holders}
-use Rattle.nl_spec_commits.specs.Trees.{RunsAs}
+use Rattle.nl_spec_commits.specs.Trees.{RepresentsTree}
 use Rattle.nl_core.specs.Core.{IsCore, running_of}
 use Rattle.nl_core.specs.Laws.{FlightLeads}
-use Rattle.nl_core.specs.Trees.{CoreRuns}
+use Rattle.nl_core.specs.Trees.{CoreRepresentsTree}
 use Rattle.nl_core.specs.declared.state.Core.{Core}
 use Rattle.nl_core.proofs.Lines.{carried_own, carried_with, in_flight}
 use Rattle.nl_core.proofs.Onward.{goes_none}
@@ -59,8 +59,8 @@ use Rattle.nl_calls_bytes.proofs.Stepped.{length-data}
 use Rattle.nl_calls_bytes.proofs.Counted.{count_same}
 use Rattle.nl_calls_steps.specs.Lines.{HasRoomForLine, InstallsLine, IsLineOfFile, worker_pages}
 use Rattle.nl_calls_write.specs.Calls.{EndsWrite}
-use Rattle.nl_calls_write.specs.Fitting.{IsReady}
-use Rattle.nl_calls_write.specs.Lines.{RunsWritten}
+use Rattle.nl_calls_write.specs.Fitting.{FileIsReady}
+use Rattle.nl_calls_write.specs.Lines.{RepresentsWritten}
 use Rattle.nl_calls_write.specs.Making.{content_at}
 use Rattle.nl_calls_steps.specs.declared.answer.Written.TheVariants as answer
 use Rattle.nl_calls_steps.specs.Calls.{HasPagesOfFiles}
@@ -102,7 +102,7 @@ place_has (y ∷ xs) (suc k) x at = inr (place_has xs k x at)
 
 module _ {D : Type 0} (g : Ghosts D) (v : Core D) (worker n files : ℕ) (rec : InodeRec) (call : Call) (core : IsCore g v) (known : worker < 8) (lead : FlightLeads g v) (w : IsWriting call)
     (some : 0 < len_of call) (few : len_of call ≤ max_bytes) (within : from_of call + len_of call ≤ 16809984) (short : is_too_long (path_of call) ≡ false) (leads : node_reached (nodes_of g v) 0 (path_of call) ≡ Some n)
-    (ready : IsReady g v n (from_of call) (len_of call) files rec) (count : HasPagesOfFiles g v files) (are : AreOfCall n rec.generation call (worker_pages v worker)) (all : HasAll call (worker_pages v worker)) where
+    (ready : FileIsReady g v n (from_of call) (len_of call) files rec) (count : HasPagesOfFiles g v files) (are : AreOfCall n rec.generation call (worker_pages v worker)) (all : HasAll call (worker_pages v worker)) where
   abbrev pages : List FlightPage
   pages = worker_pages v worker
 
@@ -175,7 +175,7 @@ module _ {D : Type 0} (g : Ghosts D) (v : Core D) (worker n files : ℕ) (rec : 
 
     -- ---- and makes what the call makes
 
-    module _ (written : RunsWritten g worker call v) (tells : g.tells) (page_of_stamp : ℕ → Option PageOfStamp) (tree : Tree) (at : CoreRuns g v page_of_stamp tree) where
+    module _ (written : RepresentsWritten g worker call v) (tells : g.tells) (page_of_stamp : ℕ → Option PageOfStamp) (tree : Tree) (at : CoreRepresentsTree g v page_of_stamp tree) where
       abbrev content : FileContent
       content = content_at tree call
 
@@ -252,8 +252,8 @@ module _ {D : Type 0} (g : Ghosts D) (v : Core D) (worker n files : ℕ) (rec : 
         pub replied : (step (g.shape v.device) tree call).reply ≡ Count (len_of call)
         replied = replies (g.shape v.device) tree call w done
 
-        pub made_tree : (new : Core D) (is : InodeRec) → InstallsLine g worker n size rec is v new → RunsAs (g.shape new.device) (running_of g new) page_of_stamp (step (g.shape v.device) tree call).tree
-        made_tree new is installs = subst (λ (t : Tree). RunsAs (g.shape new.device) (running_of g new) page_of_stamp t)
+        pub made_tree : (new : Core D) (is : InodeRec) → InstallsLine g worker n size rec is v new → RepresentsTree (g.shape new.device) (running_of g new) page_of_stamp (step (g.shape v.device) tree call).tree
+        made_tree new is installs = subst (λ (t : Tree). RepresentsTree (g.shape new.device) (running_of g new) page_of_stamp t)
             (ap (with_content tree (path_of call)) made ∙ tree_after (g.shape v.device) tree call w done)
             (installs.written page_of_stamp tree (path_of call) at.runs leads are_there)
 
@@ -288,7 +288,7 @@ module _ {D : Type 0} (g : Ghosts D) (v : Core D) (worker n files : ℕ) (rec : 
 
   -- ---- all of it
 
-  module _ (written : RunsWritten g worker call v) (looks : LooksRefuseAll) (size : ℕ) (size_is : size ≡ max rec.size (from_of call + len_of call)) (new : Core D) (is : InodeRec) (installs : InstallsLine g worker n size rec is v new)
+  module _ (written : RepresentsWritten g worker call v) (looks : LooksRefuseAll) (size : ℕ) (size_is : size ≡ max rec.size (from_of call + len_of call)) (new : Core D) (is : InodeRec) (installs : InstallsLine g worker n size rec is v new)
       (now : ℕ) (has : HasPagesOfFiles g new now) where
     pub install_ends : EndsWrite g 0 worker call v new (answer.Done now)
     install_ends = record {

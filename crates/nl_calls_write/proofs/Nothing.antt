@@ -12,11 +12,11 @@ use Rattle.nl_iface.specs.declared.counts.Counts.{Ghosts}
 use Rattle.nl_meta.specs.Consistent.{PageOfStamp}
 use Rattle.nl_meta.proofs.PageProofs.{none}
 use Rattle.nl_meta_running.proofs.Holds.{reads-none}
-use Rattle.nl_spec_commits.specs.Trees.{RunsAs}
+use Rattle.nl_spec_commits.specs.Trees.{RepresentsTree}
 use Rattle.nl_core.specs.Core.{IsCore, running_of}
 use Rattle.nl_core.specs.Dropping.{DropsLine}
-use Rattle.nl_core.specs.Goes.{Goes}
-use Rattle.nl_core.specs.Trees.{CoreRuns}
+use Rattle.nl_core.specs.Goes.{PreservesVolume}
+use Rattle.nl_core.specs.Trees.{CoreRepresentsTree}
 use Rattle.nl_core.specs.declared.state.Core.{Core}
 use Rattle.nl_calls_steps.specs.Steps.{Steps}
 use Rattle.nl_calls_write.specs.Calls.{EndsWrite}
@@ -32,7 +32,7 @@ use Rattle.nl_calls_write.proofs.Answered.{done_none, replies, tree_stays}
 no_step : {D : Type 0} (g : Ghosts D) (v : Core D) → Steps g v v
 no_step g v = record { reads = reads-none g v.device; read_faults = omega arith; pages = none v.meta; room = omega arith; others = refl }
 
-module _ {D : Type 0} (g : Ghosts D) (u v : Core D) (worker n files : ℕ) (call : Call) (core : IsCore g u) (after : IsCore g v) (known : worker < 8) (a : Goes g 0 u v) (d : DropsLine g worker u v)
+module _ {D : Type 0} (g : Ghosts D) (u v : Core D) (worker n files : ℕ) (call : Call) (core : IsCore g u) (after : IsCore g v) (known : worker < 8) (a : PreservesVolume g 0 u v) (d : DropsLine g worker u v)
     (w : IsWriting call) (none_written : len_of call ≡ 0) (short : is_too_long (path_of call) ≡ false) (leads : node_reached (nodes_of g u) 0 (path_of call) ≡ Some n) (f : IsSomeFile g u n) (count : HasPagesOfFiles g u files) (looks : LooksRefuseAll) where
   leads_still : node_reached (nodes_of g v) 0 (path_of call) ≡ Some n
   leads_still = leads_on g 0 u v a (path_of call) n leads
@@ -40,12 +40,12 @@ module _ {D : Type 0} (g : Ghosts D) (u v : Core D) (worker n files : ℕ) (call
   still : IsSomeFile g v n
   still = file_on g 0 u v a n f
 
-  module _ (page_of_stamp : ℕ → Option PageOfStamp) (tree : Tree) (at : CoreRuns g v page_of_stamp tree) where
+  module _ (page_of_stamp : ℕ → Option PageOfStamp) (tree : Tree) (at : CoreRepresentsTree g v page_of_stamp tree) where
     same_tree : (step (g.shape v.device) tree call).tree ≡ tree
     same_tree = ap (λ (o : Outcome). o.tree) (done_none g v after n still.0 still.1 call w short leads_still looks page_of_stamp tree at none_written) ∙ tree_stays g v after n still.0 still.1 call w short leads_still looks page_of_stamp tree at none_written
 
-    makes : RunsAs (g.shape v.device) (running_of g v) page_of_stamp (step (g.shape v.device) tree call).tree
-    makes = subst (λ (t : Tree). RunsAs (g.shape v.device) (running_of g v) page_of_stamp t) (sym same_tree) at.runs
+    makes : RepresentsTree (g.shape v.device) (running_of g v) page_of_stamp (step (g.shape v.device) tree call).tree
+    makes = subst (λ (t : Tree). RepresentsTree (g.shape v.device) (running_of g v) page_of_stamp t) (sym same_tree) at.runs
 
     replied : (step (g.shape v.device) tree call).reply ≡ Count (len_of call)
     replied = replies (g.shape v.device) tree call w (done_none g v after n still.0 still.1 call w short leads_still looks page_of_stamp tree at none_written)

@@ -13,8 +13,8 @@ use Rattle.nl_iface.specs.Device.{IsVolumeShape}
 use Rattle.nl_iface.specs.declared.counts.Counts.{Ghosts}
 use Rattle.nl_core.specs.Calls.{KeepsLines}
 use Rattle.nl_core.specs.Core.{IsCore}
-use Rattle.nl_core.specs.Goes.{Goes}
-use Rattle.nl_core.specs.Programming.{HasLine, PutsInFlight, last_stamp, with_page}
+use Rattle.nl_core.specs.Goes.{PreservesVolume}
+use Rattle.nl_core.specs.Programming.{HasLineOrNone, PutsInFlight, last_stamp, with_page}
 use Rattle.nl_core.specs.declared.state.Core.{Core}
 use Rattle.nl_core.proofs.Onward.{goes_more, goes_none, goes_then}
 use Rattle.nl_calls_bytes.specs.InFlight.{AreOfCall, AreWritten, is_flying}
@@ -24,11 +24,11 @@ use Rattle.nl_calls_bytes.specs.Ranges.{is_written, path_of}
 use Rattle.nl_calls_steps.specs.Lines.{worker_pages}
 use Rattle.nl_calls_steps.specs.Steps.{ReadsOn}
 use Rattle.nl_calls_steps.specs.Finding.{nodes_of}
-use Rattle.nl_calls_steps.specs.Calls.{OthersStay}
+use Rattle.nl_calls_steps.specs.Calls.{OtherLinesStay}
 use Rattle.nl_calls_steps.proofs.WorkerLines.{line_put, line_same, others_put, pages_put, same_count, same_line, same_pages}
 use Rattle.nl_calls_steps.proofs.Going.{others_none, others_same, others_then}
 use Rattle.nl_calls_steps.proofs.LeavesTree.{reads_go}
-use Rattle.nl_calls_write.specs.Lines.{AddsPage, HasIndex, PutsOn}
+use Rattle.nl_calls_write.specs.Lines.{AddsFlightPage, HasIndex, PutsOn}
 use Rattle.nl_calls_write.specs.Making.{MakesPage, content_at}
 
 -- ---- parts one after the other
@@ -61,7 +61,7 @@ not_stopped {D = D} g u v reads none low (inl off) = off (ap (λ (x : Core D). x
 not_stopped g u v reads none low (inr high) = let same = reads.runs.reads.medium.next_stamp in omega (arith, high, same, low)
 
 module _ {D : Type 0} (g : Ghosts D) (u v : Core D) (core : IsCore g u) (volume : IsVolumeShape (g.shape v.device)) (formed : g.formed v.device) (stores : g.tells → StoresPages g v.device) (reads : ReadsOn g u v) where
-  pub reads_first : Goes g 0 u v
+  pub reads_first : PreservesVolume g 0 u v
   reads_first = reads_go g u v core (subst IsVolumeShape reads.runs.reads.medium.virtual.same_shape volume) formed stores reads
 
   pub flight_same : v.flight ≡ u.flight
@@ -82,8 +82,8 @@ module _ {D : Type 0} (g : Ghosts D) (u v : Core D) (core : IsCore g u) (volume 
     others = others_same worker u.flight v.flight flight_same;
   }
 
-  module _ (worker : ℕ) (call : Call) (w : Core D) (goes : Goes g (2 ^ 30) v w) where
-    pub all_goes : Goes g (2 ^ 30) u w
+  module _ (worker : ℕ) (call : Call) (w : Core D) (goes : PreservesVolume g (2 ^ 30) v w) where
+    pub all_goes : PreservesVolume g (2 ^ 30) u w
     all_goes = goes_more g (0 + 2 ^ 30) (2 ^ 30) u w (omega arith) (goes_then g u v w 0 (2 ^ 30) reads_first goes)
 
     pub kept_lines : KeepsLines v w → KeepsLines u w
@@ -134,18 +134,18 @@ module _ {D : Type 0} (g : Ghosts D) (u v : Core D) (core : IsCore g u) (volume 
         others = λ x far. same_line w.flight (with_page u.flight worker line tag p.at) lines x ∙ ap nameless_line (others_put u.flight worker line tag p.at core.flight known x far);
       }
 
-      pub adds_page : IsCore g w → AddsPage worker line tag u w
+      pub adds_page : IsCore g w → AddsFlightPage worker line tag u w
       adds_page after = record { at = p.at; flight = lines; stamp = leb-true 1 p.at.stamp (and_parts _ _ (after.stamped (tag, p.at) p.is_in_flight)).0 }
 
 -- ---- with it the index is in flight
 
-module _ {D : Type 0} (g : Ghosts D) (worker line : ℕ) (tag : Tag) (call : Call) (u w : Core D) (core : IsCore g u) (known : worker < 8) (a : AddsPage worker line tag u w) where
+module _ {D : Type 0} (g : Ghosts D) (worker line : ℕ) (tag : Tag) (call : Call) (u w : Core D) (core : IsCore g u) (known : worker < 8) (a : AddsFlightPage worker line tag u w) where
   added_alike : map bare (worker_pages w worker) ≡ map bare (worker_pages u worker ++ record { index = tag.index; at = a.at; tag = tag } ∷ [])
   added_alike =
       same_pages (of_worker w.flight worker) (of_worker (with_page u.flight worker line tag a.at) worker) (same_line w.flight (with_page u.flight worker line tag a.at) a.flight worker)
       ∙ ap (λ (ps : List FlightPage). map bare ps) (pages_put u.flight worker line tag a.at core.flight known)
 
-  pub has_index : AreOfCall tag.ino tag.generation call (worker_pages u worker) → is_flying (worker_pages u worker) tag.index ≡ false → is_written call tag.index ≡ true → HasLine u.flight worker line
+  pub has_index : AreOfCall tag.ino tag.generation call (worker_pages u worker) → is_flying (worker_pages u worker) tag.index ≡ false → is_written call tag.index ≡ true → HasLineOrNone u.flight worker line
       → HasIndex tag.ino tag.generation worker line call tag.index u w
   has_index pages far written has =
       let x : FlightPage = record { index = tag.index; at = a.at; tag = tag } in
@@ -165,13 +165,13 @@ on_ok (Ok x) f h = f h
 on_ok (Err e) f h = tt
 
 -- no page is in flight for the index yet, or one is
-pub index_here : {D : Type 0} (n generation worker line : ℕ) (call : Call) (i : ℕ) (u : Core D) → AreOfCall n generation call (worker_pages u worker) → is_flying (worker_pages u worker) i ≡ true → HasLine u.flight worker line
+pub index_here : {D : Type 0} (n generation worker line : ℕ) (call : Call) (i : ℕ) (u : Core D) → AreOfCall n generation call (worker_pages u worker) → is_flying (worker_pages u worker) i ≡ true → HasLineOrNone u.flight worker line
     → HasIndex n generation worker line call i u u
 index_here n generation worker line call i u pages here has = record { pages = pages; here = here; stay = λ j is. is; has_line = has }
 
 -- ---- from index to index
 
-pub others_few : (worker : ℕ) (a b : List InFlight) → OthersStay worker a b → ((w : ℕ) → length (of_worker a w).pages ≤ 16) → (w : ℕ) → w ≢ worker → length (of_worker b w).pages ≤ 16
+pub others_few : (worker : ℕ) (a b : List InFlight) → OtherLinesStay worker a b → ((w : ℕ) → length (of_worker a w).pages ≤ 16) → (w : ℕ) → w ≢ worker → length (of_worker b w).pages ≤ 16
 others_few worker a b stay few = λ w far. let same = same_count (of_worker b w) (of_worker a w) (stay w far) in let most = few w in omega (arith, same, most)
 
 pub flying_more : {D : Type 0} (n generation worker line : ℕ) (call : Call) (first index : ℕ) (u w : Core D) → HasIndex n generation worker line call index u w → ((i : ℕ) → first ≤ i → i < index → is_flying (worker_pages u worker) i ≡ true)

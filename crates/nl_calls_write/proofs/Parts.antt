@@ -12,7 +12,7 @@ use Rattle.nl_iface.specs.declared.counts.Counts.{Ghosts}
 use Rattle.nl_meta_running.specs.declared.answer.Stop.{Stop}
 use Rattle.nl_meta_running.specs.declared.answer.Stop.TheVariants as stop
 use Rattle.nl_core.specs.Core.{IsCore}
-use Rattle.nl_core.specs.Goes.{Goes}
+use Rattle.nl_core.specs.Goes.{PreservesVolume}
 use Rattle.nl_core.specs.declared.state.Core.{Core}
 use Rattle.nl_core.proofs.Onward.{goes_more, goes_none, goes_then}
 use Rattle.nl_calls_steps.specs.Steps.{ReadsOn}
@@ -27,8 +27,8 @@ use Rattle.nl_calls_write.specs.declared.answer.Fits.TheVariants as fits
 use Rattle.nl_calls_steps.specs.declared.answer.Found.TheVariants as found
 use Rattle.nl_calls_steps.specs.declared.answer.Written.TheVariants as answer
 use Rattle.nl_calls_steps.specs.Answers.{EndsEarly}
-use Rattle.nl_calls_steps.specs.Calls.{HasPagesOfFiles, IfUndone, OthersStay}
-use Rattle.nl_calls_steps.specs.Finding.{IsFound, IsSomeFile, nodes_of}
+use Rattle.nl_calls_steps.specs.Calls.{HasPagesOfFiles, IfUndone, OtherLinesStay}
+use Rattle.nl_calls_steps.specs.Finding.{IsFoundFile, IsSomeFile, nodes_of}
 use Rattle.nl_calls_steps.specs.declared.answer.Written.{Written}
 use Rattle.nl_calls_steps.proofs.Early.{within-early}
 use Rattle.nl_calls_steps.proofs.Going.{files_on, others_none, others_then}
@@ -40,7 +40,7 @@ use Rattle.nl_calls_write.proofs.OnePage.{reads_first}
 -- ---- pages were read
 
 module _ {D : Type 0} (g : Ghosts D) (worker : ℕ) (call : Call) (u v : Core D) (core : IsCore g u) (volume : IsVolumeShape (g.shape v.device)) (formed : g.formed v.device) (stores : g.tells → StoresPages g v.device) (reads : ReadsOn g u v) (k : ℕ) where
-  read_goes : Goes g k u v
+  read_goes : PreservesVolume g k u v
   read_goes = goes_more g 0 k u v (omega arith) (reads_first g u v core volume formed stores reads)
 
   pub read_early : (s : Stop) → EndsEarly g u v (Some s) → EndsWrite g k worker call u v (ended_as (Err s))
@@ -50,10 +50,10 @@ module _ {D : Type 0} (g : Ghosts D) (worker : ℕ) (call : Call) (u v : Core D)
   read_then n few w a e = ends_after g 0 worker call u v (reads_first g u v core volume formed stores reads) (others_on g u v core volume formed stores reads worker) w n k (omega (arith, few)) a e
 
   -- there is no file at the path
-  pub path_refused : IsWriting call → (refusal : Refusal) (path : List (List ℕ)) → path ≡ path_of call → IsFound g u path (found.No refusal) → EndsWrite g k worker call u v (answer.No refusal)
+  pub path_refused : IsWriting call → (refusal : Refusal) (path : List (List ℕ)) → path ≡ path_of call → IsFoundFile g u path (found.No refusal) → EndsWrite g k worker call u v (answer.No refusal)
   path_refused writing refusal path same at = ends_refused g k worker call u v refusal read_goes (others_on g u v core volume formed stores reads worker)
       (λ tells page_of_stamp tree runs.
-      path-refuses (g.shape u.device) tree call writing refusal (subst (λ (p : List (List ℕ)). IsFound g u p (found.No refusal)) same at page_of_stamp tree runs.runs))
+      path-refuses (g.shape u.device) tree call writing refusal (subst (λ (p : List (List ℕ)). IsFoundFile g u p (found.No refusal)) same at page_of_stamp tree runs.runs))
 
   -- there is no room for the bytes of the call
   module _ (after : IsCore g v) (n files : ℕ) (writing : IsWriting call) (short : is_too_long (path_of call) ≡ false) (leads : node_reached (nodes_of g v) 0 (path_of call) ≡ Some n) (looks : LooksRefuseAll)
@@ -72,7 +72,7 @@ far_refused g k worker n call u core writing short leads f looks some far =
 
 -- ---- a part went on
 
-module _ {D : Type 0} (g : Ghosts D) (m worker : ℕ) (call : Call) (u v : Core D) (a : Goes g m u v) (stay : OthersStay worker u.flight v.flight) where
+module _ {D : Type 0} (g : Ghosts D) (m worker : ℕ) (call : Call) (u v : Core D) (a : PreservesVolume g m u v) (stay : OtherLinesStay worker u.flight v.flight) where
   pub part_early : (k : ℕ) → m ≤ k → (s : Stop) → EndsEarly g u v (Some s) → EndsWrite g k worker call u v (ended_as (Err s))
   part_early k few s e = ends_early g k worker call u v s (goes_more g m k u v few a) stay e
 
@@ -82,10 +82,10 @@ module _ {D : Type 0} (g : Ghosts D) (m worker : ℕ) (call : Call) (u v : Core 
 
 -- the line was kept, and pages were put
 module _ {D : Type 0} (g : Ghosts D) (m n generation worker line : ℕ) (call : Call) (u v w : Core D) (keeps : KeepsLine g n generation worker line call u v) (puts : PutsOn g m worker call v w) where
-  pub put_goes : Goes g m u w
+  pub put_goes : PreservesVolume g m u w
   put_goes = goes_more g (0 + m) m u w (omega arith) (goes_then g u v w 0 m keeps.goes puts.goes)
 
-  pub put_others : OthersStay worker u.flight w.flight
+  pub put_others : OtherLinesStay worker u.flight w.flight
   put_others = others_then worker u.flight v.flight w.flight keeps.others puts.others
 
   pub put_early : (s : Stop) → EndsEarly g v w (Some s) → EndsEarly g u w (Some s)
@@ -96,7 +96,7 @@ pub ends_more : {D : Type 0} (g : Ghosts D) (n k worker : ℕ) (call : Call) (u 
 ends_more g n k worker call u w a core few e = ends_after g 0 worker call u u (goes_none g u core) (others_none worker u.flight) w n k (omega (arith, few)) a e
 
 -- but for a call that is done, files have as many pages as before
-pub undone_files : {D : Type 0} (g : Ghosts D) (k files : ℕ) (u v : Core D) (a : Written) → HasPagesOfFiles g u files → IfUndone a (Goes g k u v) → IfUndone a (HasPagesOfFiles g v files)
+pub undone_files : {D : Type 0} (g : Ghosts D) (k files : ℕ) (u v : Core D) (a : Written) → HasPagesOfFiles g u files → IfUndone a (PreservesVolume g k u v) → IfUndone a (HasPagesOfFiles g v files)
 undone_files g k files u v (answer.Done now) count goes = tt
 undone_files g k files u v (answer.No refusal) count goes = files_on g k u v goes files count
 undone_files g k files u v (answer.Lost w f) count goes = files_on g k u v goes files count

@@ -25,10 +25,10 @@ use Rattle.nl_meta.specs.Consistent.{PageOfStamp}
 use Rattle.nl_meta.proofs.Lists.{none_some, some_in}
 use Rattle.nl_core.specs.Core.{IsCore, names_of, running_of}
 use Rattle.nl_core.specs.Dropping.{DropsLine}
-use Rattle.nl_core.specs.Goes.{Goes}
+use Rattle.nl_core.specs.Goes.{PreservesVolume}
 use Rattle.nl_core.specs.Laws.{FlightLeads}
-use Rattle.nl_core.specs.Programming.{HasLine}
-use Rattle.nl_core.specs.Trees.{CoreRuns}
+use Rattle.nl_core.specs.Programming.{HasLineOrNone}
+use Rattle.nl_core.specs.Trees.{CoreRepresentsTree}
 use Rattle.nl_core.specs.declared.state.Core.{Core}
 use Rattle.nl_core.proofs.Lines.{carried_own, in_flight}
 use Rattle.nl_core.proofs.Onward.{goes_none}
@@ -38,7 +38,7 @@ use Rattle.nl_calls_bytes.specs.InFlight.{AreOfCall, AreWritten}
 use Rattle.nl_calls_bytes.specs.Ranges.{IsWriting, data_of, from_of, is_written, len_of, path_of}
 use Rattle.nl_calls_bytes.specs.Staged.{AllOfFile}
 use Rattle.nl_calls_steps.specs.Lines.{worker_pages}
-use Rattle.nl_calls_steps.specs.Calls.{RunsAsSome}
+use Rattle.nl_calls_steps.specs.Calls.{RepresentsSomeTree}
 use Rattle.nl_calls_steps.specs.Finding.{IsSomeFile, nodes_of}
 use Rattle.nl_calls_steps.proofs.FilePages.{at-path}
 use Rattle.nl_calls_steps.proofs.WorkerLines.{others_dropped, own_dropped}
@@ -155,7 +155,7 @@ module _ {D : Type 0} (g : Ghosts D) (v : Core D) (worker : ℕ) (call : Call) (
       differ = rising_differ (worker_pages v worker) (div_ceil (from_of call) 4096) (λ k p at. (staged k p at).index);
     }
 
-  module _ (lead : FlightLeads g v) (page_of_stamp : ℕ → Option PageOfStamp) (tree : Tree) (tells : g.tells) (at : CoreRuns g v page_of_stamp tree) (right : IsTrue (is_content (content_at tree call))) where
+  module _ (lead : FlightLeads g v) (page_of_stamp : ℕ → Option PageOfStamp) (tree : Tree) (tells : g.tells) (at : CoreRepresentsTree g v page_of_stamp tree) (right : IsTrue (is_content (content_at tree call))) where
     pub staged_written : AreWritten page_of_stamp (content_at tree call) call (worker_pages v worker)
     staged_written = λ k p here.
         let l = lead (p.tag, p.at) (carried_at v.flight worker k p core.flight known here) in
@@ -165,7 +165,7 @@ module _ {D : Type 0} (g : Ghosts D) (v : Core D) (worker : ℕ) (call : Call) (
         (given_is call w p.index (g.bytes v.device (place_of (names_of g v) p.at)) (page_bytes (content_at tree call) p.index) (byte_laws.whole_page (content_at tree call) p.index right) (given_whole call w p.index s.whole) (s.given tells))
 
 -- what the tree has at the path of the call is a content, where it leads to a file
-pub content_right : {D : Type 0} (g : Ghosts D) (v : Core D) (page_of_stamp : ℕ → Option PageOfStamp) (tree : Tree) (n : ℕ) (call : Call) → IsSomeFile g v n → CoreRuns g v page_of_stamp tree
+pub content_right : {D : Type 0} (g : Ghosts D) (v : Core D) (page_of_stamp : ℕ → Option PageOfStamp) (tree : Tree) (n : ℕ) (call : Call) → IsSomeFile g v n → CoreRepresentsTree g v page_of_stamp tree
     → node_reached (nodes_of g v) 0 (path_of call) ≡ Some n → IsTrue (is_content (content_at tree call))
 content_right g v page_of_stamp tree n call f at leads =
     let there = at-path g v page_of_stamp tree n f.0 f.1 at (path_of call) leads in
@@ -173,7 +173,7 @@ content_right g v page_of_stamp tree n call f at leads =
 
 -- ---- they are kept or dropped
 
-module _ {D : Type 0} (g : Ghosts D) (v : Core D) (n generation worker line : ℕ) (call : Call) (writing : IsWriting call) (core : IsCore g v) (known : worker < 8) (runs : RunsAsSome g v) (has : HasLine v.flight worker line)
+module _ {D : Type 0} (g : Ghosts D) (v : Core D) (n generation worker line : ℕ) (call : Call) (writing : IsWriting call) (core : IsCore g v) (known : worker < 8) (runs : RepresentsSomeTree g v) (has : HasLineOrNone v.flight worker line)
     (few : (w : ℕ) → length (of_worker v.flight w).pages ≤ 16) where
   pub line_kept : AreStaged g v call (worker_pages v worker) → FlightLeads g v → 0 < len_of call → AllOfFile n generation (worker_pages v worker) → IsSomeFile g v n → node_reached (nodes_of g v) 0 (path_of call) ≡ Some n
       → KeepsLine g n generation worker line call v v
@@ -197,7 +197,7 @@ module _ {D : Type 0} (g : Ghosts D) (v : Core D) (n generation worker line : �
     others = others_none worker v.flight;
   }
 
-  pub line_dropped : (w : Core D) → Goes g 0 v w → DropsLine g worker v w → KeepsLine g n generation worker line call v w
+  pub line_dropped : (w : Core D) → PreservesVolume g 0 v w → DropsLine g worker v w → KeepsLine g n generation worker line call v w
   line_dropped w a d = record {
     goes = a;
     stopped = ap (λ (x : Core D). x.stopped) d.others;

@@ -13,14 +13,14 @@ use Rattle.nl_iface.specs.declared.counts.Counts.{Ghosts}
 use Rattle.nl_meta.specs.Consistent.{PageOfStamp}
 use Rattle.nl_meta_running.specs.declared.answer.Stop.{Stop}
 use Rattle.nl_meta_running.specs.declared.answer.Stop.TheVariants as stop
-use Rattle.nl_core.specs.Goes.{Goes}
-use Rattle.nl_core.specs.Programming.{HasLine}
-use Rattle.nl_core.specs.Trees.{CoreRuns}
+use Rattle.nl_core.specs.Goes.{PreservesVolume}
+use Rattle.nl_core.specs.Programming.{HasLineOrNone}
+use Rattle.nl_core.specs.Trees.{CoreRepresentsTree}
 use Rattle.nl_core.specs.declared.state.Core.{Core}
 use Rattle.nl_calls_steps.specs.Lines.{worker_pages}
 use Rattle.nl_calls_bytes.specs.Ranges.{from_of, len_of}
 use Rattle.nl_calls_steps.specs.declared.answer.Written.TheVariants as written
-use Rattle.nl_calls_steps.specs.Calls.{HasPagesOfFiles, IfDone, IfUndone, OthersStay, RunsAsSome, TakesWithin, stop_in}
+use Rattle.nl_calls_steps.specs.Calls.{HasPagesOfFiles, IfWritten, IfUndone, OtherLinesStay, RepresentsSomeTree, TakesWithin, stop_in}
 use Rattle.nl_calls_steps.specs.Answers.{EndsEarly}
 use Rattle.nl_calls_steps.specs.declared.answer.Written.{Written}
 
@@ -39,10 +39,10 @@ AreStaged g v call pages = (place : ℕ) (page : FlightPage) → slice_get pages
 -- has more pages in flight than a line may, and those of this one are of this line, whole pages of the call from the first one on.
 pub record CanWriteLine {D : Type 0} (g : Ghosts D) (v : Core D) (worker line : ℕ) (call : Call) (files : ℕ) : Type 0 where
   pub writes : v.stopped ≡ 0
-  pub runs : RunsAsSome g v
+  pub runs : RepresentsSomeTree g v
   pub known : worker < 8
   pub some : 0 < line
-  pub has_line : HasLine v.flight worker line
+  pub has_line : HasLineOrNone v.flight worker line
   pub files_are : HasPagesOfFiles g v files
   pub staged : AreStaged g v call (worker_pages v worker)
   pub few : (w : ℕ) → length (of_worker v.flight w).pages ≤ 16
@@ -52,10 +52,10 @@ pub record CanWriteLine {D : Type 0} (g : Ghosts D) (v : Core D) (worker line : 
 -- The step of each tree as which the core ran answers to a write what the core answers.
 abbrev pub AnswersWrite : {D : Type 0} → Ghosts D → Call → Core D → Written → Type 0
 AnswersWrite g call old (written.Done files) =
-    g.tells → (page_of_stamp : ℕ → Option PageOfStamp) (tree : Tree) → CoreRuns g old page_of_stamp tree
+    g.tells → (page_of_stamp : ℕ → Option PageOfStamp) (tree : Tree) → CoreRepresentsTree g old page_of_stamp tree
     → (step (g.shape old.device) tree call).reply ≡ Count (len_of call)
 AnswersWrite g call old (written.No refusal) =
-    g.tells → (page_of_stamp : ℕ → Option PageOfStamp) (tree : Tree) → CoreRuns g old page_of_stamp tree
+    g.tells → (page_of_stamp : ℕ → Option PageOfStamp) (tree : Tree) → CoreRepresentsTree g old page_of_stamp tree
     → step (g.shape old.device) tree call ≡ record { reply = No refusal; bytes = []; tree = tree }
 AnswersWrite g call old (written.Lost w f) = ⊤
 AnswersWrite g call old written.Fault = ⊤
@@ -68,8 +68,8 @@ ended_as (Err (stop.Lost w f)) = written.Lost w f
 
 -- All of a call that writes: what it does, with at most so many write sequence numbers, what it answers, and why it ended early.
 pub record EndsWrite {D : Type 0} (g : Ghosts D) (most worker : ℕ) (call : Call) (old new : Core D) (answer : Written) : Type 0 where
-  pub done : IfDone answer (λ files. TakesWithin g most worker call old new × HasPagesOfFiles g new files)
-  pub undone : IfUndone answer (Goes g most old new)
+  pub done : IfWritten answer (λ files. TakesWithin g most worker call old new × HasPagesOfFiles g new files)
+  pub undone : IfUndone answer (PreservesVolume g most old new)
   pub answers : AnswersWrite g call old answer
-  pub others : OthersStay worker old.flight new.flight
+  pub others : OtherLinesStay worker old.flight new.flight
   pub early : EndsEarly g old new (stop_in answer)

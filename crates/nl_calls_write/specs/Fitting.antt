@@ -22,7 +22,7 @@ refusal_for g v rec from len files =
     (new_pointers (running_of g v) rec (indexes_written from len))
 
 -- The file's record and the pages of its pointers are resident, and there is room.
-pub record IsReady {D : Type 0} (g : Ghosts D) (v : Core D) (n from len files : ℕ) (rec : InodeRec) : Type 0 where
+pub record FileIsReady {D : Type 0} (g : Ghosts D) (v : Core D) (n from len files : ℕ) (rec : InodeRec) : Type 0 where
   pub file : IsFileOf g v.device v.meta n rec
   pub there : IsSome (page_of v.meta (page_of_node n))
   pub ranges : (i : ℕ) → first_index from ≤ i → i < first_index from + count_indexes from len → HasRange (page_of v.meta) rec i
@@ -30,6 +30,6 @@ pub record IsReady {D : Type 0} (g : Ghosts D) (v : Core D) (n from len files : 
 
 -- The file is ready for the pages, or there is no room for them.
 abbrev pub IsFitting : {D : Type 0} → Ghosts D → Core D → ℕ → ℕ → ℕ → ℕ → Fits → Type 0
-IsFitting g v n from len files (fits.Fits rec) = IsReady g v n from len files rec
+IsFitting g v n from len files (fits.Fits rec) = FileIsReady g v n from len files rec
 IsFitting g v n from len files (fits.No refusal) =
     (rec : InodeRec) × IsFileOf g v.device v.meta n rec × (refusal_for g v rec from len files ≡ Some refusal)

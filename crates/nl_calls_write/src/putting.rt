@@ -1,7 +1,7 @@
 // The pages of a call that writes, programmed and put in flight for the line of a worker.
 ghost use Rattle.std.specs.Prelude.{◌≡◌, ◌≢◌, ◌+◌, ◌≤◌, ◌<◌, ◌*◌, ◌^◌, ℕ, true, OnErr, OnOk, length};
 ghost use Rattle.nl_field.specs.Numbers.{max_bytes};
-ghost use Rattle.nl_flight.specs.Flight.{HasPlace, of_worker};
+ghost use Rattle.nl_flight.specs.Flight.{HasFlightRoom, of_worker};
 ghost use Rattle.nl_meta_running.specs.Reading.{stop_of};
 ghost use Rattle.nl_core.specs.Calls.{KeepsLines};
 ghost use Rattle.nl_core.specs.Core.{IsCore};
@@ -10,7 +10,7 @@ ghost use Rattle.nl_calls_steps.specs.Lines.{worker_pages};
 ghost use Rattle.nl_calls_steps.specs.Answers.{EndsEarly};
 ghost use Rattle.nl_calls_bytes.specs.InFlight.{AreOfCall, HasAll};
 ghost use Rattle.nl_calls_bytes.specs.Ranges.{from_of, is_written, len_of};
-ghost use Rattle.nl_calls_write.specs.Lines.{AddsPage, CanPut, HasIndex, PutsOn};
+ghost use Rattle.nl_calls_write.specs.Lines.{AddsFlightPage, CanPut, HasIndex, PutsOn};
 
 use crate::paging::make_page;
 use nl_calls_bytes::{has_index, length_of, offset_of};
@@ -106,13 +106,13 @@ fn put_page<D: MovingPages>(
     requires core { IsCore D.Counts core.old }
     requires stamp { D.next_stamp core.old.device < last_stamp }
     requires can { CanPut D.Counts core.old worker line call.now tag.ino }
-    requires place { HasPlace core.old.flight worker }
+    requires place { HasFlightRoom core.old.flight worker }
     requires few { len_of call.now ≤ max_bytes }
     requires written { is_written call.now tag.index ≡ true }
     requires within { tag.index < 4104 }
     ensures core { IsCore D.Counts core.new }
     ensures puts { PutsOn D.Counts (2 ^ 30) worker call.now core.old core.new }
-    ensures added { OnOk result (AddsPage worker line tag core.old core.new) }
+    ensures added { OnOk result (AddsFlightPage worker line tag core.old core.new) }
     ensures none { OnErr result (KeepsLines core.old core.new) }
     ensures early { EndsEarly D.Counts core.old core.new (stop_of result) }
 {

@@ -9,16 +9,16 @@ ghost use Rattle.nl_tree.specs.Calls.{IsBounded};
 ghost use Rattle.nl_tree.specs.Represents.{node_reached};
 ghost use Rattle.nl_tree.specs.Step.{is_too_long};
 ghost use Rattle.nl_core.specs.Core.{IsCore};
-ghost use Rattle.nl_core.specs.Programming.{HasLine};
+ghost use Rattle.nl_core.specs.Programming.{HasLineOrNone};
 ghost use Rattle.nl_calls_steps.specs.Lines.{worker_pages};
-ghost use Rattle.nl_calls_steps.specs.Calls.{HasPagesOfFiles, IfUndone, RunsAsSome};
+ghost use Rattle.nl_calls_steps.specs.Calls.{HasPagesOfFiles, IfUndone, RepresentsSomeTree};
 ghost use Rattle.nl_calls_steps.specs.Finding.{IsOfGeneration, IsSomeFile, nodes_of};
 ghost use Rattle.nl_calls_write.specs.Calls.{AreStaged, CanWriteLine, EndsWrite, ended_as};
 ghost use Rattle.nl_calls_bytes.specs.Contents.{count_indexes};
 ghost use Rattle.nl_calls_bytes.specs.InFlight.{AreOfCall, HasAll};
 ghost use Rattle.nl_calls_bytes.specs.Ranges.{IsSomeWrite, IsWriting, from_of, len_of, path_of};
-ghost use Rattle.nl_calls_write.specs.Fitting.{IsReady};
-ghost use Rattle.nl_calls_write.specs.Lines.{IsLineOfCall, KeepsLine, RunsWritten};
+ghost use Rattle.nl_calls_write.specs.Fitting.{FileIsReady};
+ghost use Rattle.nl_calls_write.specs.Lines.{IsLineOfCall, KeepsLine, RepresentsWritten};
 
 use crate::answer::Fits;
 use crate::fitting::fits;
@@ -252,9 +252,9 @@ fn keep_line<D: MovingPages>(
     generation: u32,
 )
     requires core { IsCore D.Counts core.old }
-    requires runs { RunsAsSome D.Counts core.old }
+    requires runs { RepresentsSomeTree D.Counts core.old }
     requires known { worker < 8 }
-    requires line { HasLine core.old.flight worker line }
+    requires line { HasLineOrNone core.old.flight worker line }
     requires writing { IsWriting call.now }
     requires some { 0 < len_of call.now }
     requires leads { node_reached (nodes_of D.Counts core.old) 0 (path_of call.now) ≡ Some ino }
@@ -289,7 +289,7 @@ fn install_pages<D: MovingPages>(
     requires line { IsLineOfCall D.Counts core.old ino worker call.now }
     requires files { HasPagesOfFiles D.Counts core.old files }
     requires all { HasAll call.now (worker_pages core.old worker) }
-    requires written { RunsWritten D.Counts worker call.now core.old }
+    requires written { RepresentsWritten D.Counts worker call.now core.old }
     ensures core { IsCore D.Counts core.new }
     ensures ends { EndsWrite D.Counts 512 worker call.now core.old core.new (ended_as result) }
 {
@@ -315,7 +315,7 @@ fn install<D: MovingPages>(
     requires line { IsLineOfCall D.Counts core.old ino worker call.now }
     requires files { HasPagesOfFiles D.Counts core.old files }
     requires all { HasAll call.now (worker_pages core.old worker) }
-    requires written { RunsWritten D.Counts worker call.now core.old }
+    requires written { RepresentsWritten D.Counts worker call.now core.old }
     requires room { length (besides_0 core.old.meta.dirty) + 4 ≤ most }
     ensures core { IsCore D.Counts core.new }
     ensures ends { EndsWrite D.Counts 0 worker call.now core.old core.new (ended_as result) }
@@ -345,11 +345,11 @@ fn install_ready<D: MovingPages>(
     requires known { worker < 8 }
     requires write { IsSomeWrite call.now }
     requires leads { node_reached (nodes_of D.Counts core.old) 0 (path_of call.now) ≡ Some ino }
-    requires ready { IsReady D.Counts core.old ino (from_of call.now) (len_of call.now) files rec }
+    requires ready { FileIsReady D.Counts core.old ino (from_of call.now) (len_of call.now) files rec }
     requires files { HasPagesOfFiles D.Counts core.old files }
     requires pages { AreOfCall ino rec.generation call.now (worker_pages core.old worker) }
     requires all { HasAll call.now (worker_pages core.old worker) }
-    requires written { RunsWritten D.Counts worker call.now core.old }
+    requires written { RepresentsWritten D.Counts worker call.now core.old }
     requires room { length (besides_0 core.old.meta.dirty) + 4 ≤ most }
     ensures core { IsCore D.Counts core.new }
     ensures ends { EndsWrite D.Counts 0 worker call.now core.old core.new result }

@@ -4,7 +4,7 @@ ghost use Rattle.nl_check.specs.Checking.{Checks, IfFound, SetsOne};
 ghost use Rattle.nl_field.specs.CrashStates.{Rose};
 ghost use Rattle.nl_field.specs.Medium.{readable_pages};
 ghost use Rattle.nl_field.specs.Page.{Image};
-ghost use Rattle.nl_core_open.specs.Opening.{IsFault, OpensImage};
+ghost use Rattle.nl_core_open.specs.Opening.{IsCoreOpenFault, CoreOpensImage};
 
 use nl_core_open::{Opened, open};
 use nl_field::{Findings, Place};
@@ -44,10 +44,10 @@ pub fn findings<M: Nand>(alloc: Global, media: M) -> (Checked, M)
 
 // What is found of an image that opens so.
 fn checked_of<M: Nand>(opened: &Opened<M>) -> Checked
-    ensures found { (image : Image) → OpensImage image opened.now → IfFound result (Checks image) }
-    ensures readable { (image : Image) → OpensImage image opened.now → IfFound result (λ bits count. readable_pages image ≢ []) }
-    ensures blank { (image : Image) → OpensImage image opened.now → result ≡ Checked.Blank → readable_pages image ≡ [] }
-    ensures fault { result ≡ Checked.Fault ↔ IsFault opened.now }
+    ensures found { (image : Image) → CoreOpensImage image opened.now → IfFound result (Checks image) }
+    ensures readable { (image : Image) → CoreOpensImage image opened.now → IfFound result (λ bits count. readable_pages image ≢ []) }
+    ensures blank { (image : Image) → CoreOpensImage image opened.now → result ≡ Checked.Blank → readable_pages image ≡ [] }
+    ensures fault { result ≡ Checked.Fault ↔ IsCoreOpenFault opened.now }
 {
     walk_is_consistency();
     match opened {

@@ -1,7 +1,7 @@
 // Prints the answers of a script.
 ghost use Rattle.std.specs.Prelude.{◌≡◌, ◌<◌, ◌≤◌, IfSome, flat_map, length, slice_get};
 ghost use Rattle.nl_field.specs.CrashStates.{Rose};
-ghost use Rattle.nl_io.specs.Streams.{Writes};
+ghost use Rattle.nl_io.specs.Streams.{WritesStream};
 ghost use Rattle.nl_cmd_answers.specs.Rows.{row_line, rows_text};
 
 use nl_io::{Sink, SinkAnswer};
@@ -11,7 +11,7 @@ use nl_workers::AnswerTable;
 /// Prints with which count a volume opened, and a line for each answer, in the order of their places. After a failure of the sink no more
 /// is printed.
 pub fn print_answers<K: Sink>(sink: &mut K, count: u64, answers: &AnswerTable) -> SinkAnswer
-    ensures text { Writes (K.taken sink.old) (K.taken sink.new) result (rows_text count answers.now.rows) }
+    ensures text { WritesStream (K.taken sink.old) (K.taken sink.new) result (rows_text count answers.now.rows) }
     ensures never_falls { K.faults sink.old ≤ K.faults sink.new }
     ensures cause { result ≡ SinkAnswer.Failed → Rose (K.faults sink.old) (K.faults sink.new) }
 {
@@ -23,7 +23,7 @@ pub fn print_answers<K: Sink>(sink: &mut K, count: u64, answers: &AnswerTable) -
 
 // Prints a line for each answer.
 fn print_rows<K: Sink>(sink: &mut K, answers: &AnswerTable) -> SinkAnswer
-    ensures text { Writes (K.taken sink.old) (K.taken sink.new) result (flat_map row_line answers.now.rows) }
+    ensures text { WritesStream (K.taken sink.old) (K.taken sink.new) result (flat_map row_line answers.now.rows) }
     ensures never_falls { K.faults sink.old ≤ K.faults sink.new }
     ensures cause { result ≡ SinkAnswer.Failed → Rose (K.faults sink.old) (K.faults sink.new) }
 {
@@ -39,7 +39,7 @@ fn print_rows<K: Sink>(sink: &mut K, answers: &AnswerTable) -> SinkAnswer
 // Prints the answer at a place, counted from 0.
 fn print_row<K: Sink>(sink: &mut K, answers: &AnswerTable, at: u32) -> SinkAnswer
     requires { at < length answers.now.rows }
-    ensures text { IfSome (slice_get answers.now.rows at) (λ row. Writes (K.taken sink.old) (K.taken sink.new) result (row_line row)) }
+    ensures text { IfSome (slice_get answers.now.rows at) (λ row. WritesStream (K.taken sink.old) (K.taken sink.new) result (row_line row)) }
     ensures never_falls { K.faults sink.old ≤ K.faults sink.new }
     ensures cause { result ≡ SinkAnswer.Failed → Rose (K.faults sink.old) (K.faults sink.new) }
 {

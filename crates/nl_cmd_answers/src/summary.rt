@@ -1,7 +1,7 @@
 // Prints the summary of a soak.
 ghost use Rattle.std.specs.Prelude.{◌≡◌, ◌≤◌, cond, length, map};
 ghost use Rattle.nl_field.specs.CrashStates.{Rose, saturated};
-ghost use Rattle.nl_io.specs.Streams.{Writes};
+ghost use Rattle.nl_io.specs.Streams.{WritesStream};
 ghost use Rattle.nl_cmd_answers.specs.Rows.{is_ok, ok_in, read_by, read_in, said, summary_text, written_by, written_in};
 
 use nl_io::{Sink, SinkAnswer};
@@ -26,7 +26,7 @@ pub fn print_summary<K: Sink>(
     nodes: u32,
     meta: u32,
 ) -> SinkAnswer
-    ensures text { Writes (K.taken sink.old) (K.taken sink.new) result (summary_text (map said answers.now.rows) pages nodes meta) }
+    ensures text { WritesStream (K.taken sink.old) (K.taken sink.new) result (summary_text (map said answers.now.rows) pages nodes meta) }
     ensures never_falls { K.faults sink.old ≤ K.faults sink.new }
     ensures cause { result ≡ SinkAnswer.Failed → Rose (K.faults sink.old) (K.faults sink.new) }
 {

@@ -11,7 +11,7 @@ use Rattle.nl_tree.specs.Tree.{Tree}
 use Rattle.nl_tree.specs.declared.call.Call.{Call}
 use Rattle.nl_tree.specs.declared.reply.FaultReply.{FaultReply}
 use Rattle.nl_spec_image.specs.Crash.{OpensAsPrefix, Run}
-use Rattle.nl_spec_image.specs.Stands.{SoundAs}
+use Rattle.nl_spec_image.specs.Stands.{ConsistentAs}
 
 -- a sync whose moment is still to come has made nothing durable
 none_durable : (syncs : List SyncPoint) (count moment : ℕ) → ((s : SyncPoint) → Has syncs s → moment < s.moment) → durable_prefix syncs count moment ≡ count
@@ -34,10 +34,10 @@ none_replayed shape tree = refl
 none_taken : (calls : List (Call × Option FaultReply)) (n : ℕ) → n ≡ 0 → take n calls ≡ []
 none_taken calls n e = ap (λ k. take k calls) e
 
-pub starts_as : (run : Run) (moment : ℕ) (image : Image) → SoundAs image run.count run.tree → ((s : SyncPoint) → Has run.syncs s → moment < s.moment) → OpensAsPrefix SoundAs run moment image
+pub starts_as : (run : Run) (moment : ℕ) (image : Image) → ConsistentAs image run.count run.tree → ((s : SyncPoint) → Has run.syncs s → moment < s.moment) → OpensAsPrefix ConsistentAs run moment image
 starts_as run moment image sound later = record {
   prefix = run.count;
   holds_synced = (let is = none_durable run.syncs run.count moment later in omega (arith, is));
   not_beyond = omega arith;
-  sound = subst (SoundAs image run.count) (sym (ap (replay run.shape run.tree) (none_taken run.calls (run.count - run.count) (omega arith)) ∙ none_replayed run.shape run.tree)) sound;
+  sound = subst (ConsistentAs image run.count) (sym (ap (replay run.shape run.tree) (none_taken run.calls (run.count - run.count) (omega arith)) ∙ none_replayed run.shape run.tree)) sound;
 }

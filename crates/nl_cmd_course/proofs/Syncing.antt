@@ -21,7 +21,7 @@ use Rattle.nl_turns.specs.Seat.{Passed, entries}
 use Rattle.nl_turns.specs.declared.entry.Entry.{Entry}
 use Rattle.nl_turns.proofs.Lines.{get_at}
 use Rattle.nl_workers.specs.Going.{times_in}
-use Rattle.nl_workers.specs.Placed.{EndsStaged, HasEffect, MayRun, effects_of}
+use Rattle.nl_workers.specs.Placed.{EndsStaged, LineTookEffect, LineMayRun, effects_of}
 use Rattle.nl_workers.specs.Rounds.{AllPlaced, AreRows, answered_lines}
 use Rattle.nl_workers.specs.Table.{Row}
 use Rattle.nl_workers.proofs.Answering.{IsFound, StandsAt, are_answered, found_number, is_from, stands_at_index, times_once}
@@ -199,12 +199,12 @@ module _ (tells : Type 0) (o : Opening) (history : List Passed) (rows : List Row
       whole : began.early ++ began.one ∷ (began.late ++ t.entry ∷ t.after) ≡ history
       whole = sym (append_assoc began.early (began.one ∷ began.late) (t.entry ∷ t.after)) ∙ (ap (λ z. z ++ t.entry ∷ t.after) began.split ∙ t.split)
 
-      runs : (earlier : Line) → Contains o.lines earlier → IsTrue (has_to_precede earlier l) → HasEffect earlier.line began.early
+      runs : (earlier : Line) → Contains o.lines earlier → IsTrue (has_to_precede earlier l) → LineTookEffect earlier.line began.early
       runs =
           let p = t.some in
           let at = began.staged in
-          let may : MayRun o.lines began.one.entry.staged began.early = (placed began.early began.one (began.late ++ t.entry ∷ t.after) whole).staged (omega arith) in
-          subst (λ x. IfSome x (λ line. (earlier : Line) → Contains o.lines earlier → IsTrue (has_to_precede earlier line) → HasEffect earlier.line began.early)) (ap (line_at o.lines) at ∙ t.found) may
+          let may : LineMayRun o.lines began.one.entry.staged began.early = (placed began.early began.one (began.late ++ t.entry ∷ t.after) whole).staged (omega arith) in
+          subst (λ x. IfSome x (λ line. (earlier : Line) → Contains o.lines earlier → IsTrue (has_to_precede earlier line) → LineTookEffect earlier.line began.early)) (ap (line_at o.lines) at ∙ t.found) may
 
       behind : (j : ℕ) (b : Line) → slice_get (lines_in course) j ≡ Some b → IsTrue (has_to_precede b l) → j + 1 ≤ effects (entries began.early)
       behind j b is prec =

@@ -5,7 +5,7 @@ use Rattle.nl_field.specs.CrashStates.{Earlier, top}
 use Rattle.nl_field.specs.Members.{Has}
 use Rattle.nl_field.specs.Page.{Image}
 use Rattle.nl_tree.specs.Calls.{AreLines}
-use Rattle.nl_tree.specs.Causes.{Counts, HasCause, MayBeWorn, eio_of, erofs_of}
+use Rattle.nl_tree.specs.Causes.{Counts, HasCause, MayBeExhausted, eio_of, erofs_of}
 use Rattle.nl_tree.specs.Order.{IsOrderOf, SyncPoint}
 use Rattle.nl_tree.specs.Replay.{replay}
 use Rattle.nl_tree.specs.Tree.{Tree}
@@ -13,14 +13,14 @@ use Rattle.nl_tree.specs.declared.call.Call.{Call}
 use Rattle.nl_tree.specs.declared.call.Line.{Line}
 use Rattle.nl_tree.specs.declared.reply.FaultReply.{FaultReply}
 use Rattle.nl_spec_image.specs.Crash.{OpensAsPrefix, Run}
-use Rattle.nl_spec_image.specs.Stands.{SoundAs}
+use Rattle.nl_spec_image.specs.Stands.{ConsistentAs}
 use Rattle.nl_turns.specs.History.{IsKnown, Opening, SyncsInRange, call_of, effects, fault_of, marked_calls, syncs_of, tree_after as tree_of_history}
 use Rattle.nl_turns.specs.Seat.{Passed, entries}
 use Rattle.nl_turns.specs.declared.entry.Entry.{Entry}
 use Rattle.nl_workers.specs.Rounds.{AllPlaced, AreRows, answered_lines}
 use Rattle.nl_workers.specs.Table.{Row}
 use Rattle.nl_spec_headline.specs.Course.{Course, count_after, run_in, tree_after}
-use Rattle.nl_spec_headline.specs.Headline.{AnswersByTree, EndsAfterAll, IsOneOrder, IsYoung, OpensAs, RunsLines, StopsLeavePrefixes, TellsSyncs}
+use Rattle.nl_spec_headline.specs.Headline.{AnswersByTree, EndsAfterAll, IsOneOrder, IsYoung, OpensAs, RunsLines, CrashesLeavePrefixes, TellsSyncs}
 use Rattle.nl_spec_headline.specs.Streams.{Medium, MediumRose}
 use Rattle.nl_cmd_course.specs.Charges.{AreCharges}
 use Rattle.nl_cmd_course.specs.declared.charges.Charges.{Charges}
@@ -91,7 +91,7 @@ module _ (tells : Type 0) (lines : List Line) (o : Opening) (history : List Pass
   opens_so : (image : Image) → OpensAs image (course_of o []) → OpensAs image course
   opens_so image opens = record { sound = opens.sound; shape = opens.shape; next_stamp = opens.next_stamp }
 
-  starts_so : (image : Image) → SoundAs image o.count o.tree → now.clock < 2 ^ 63 → OpensAsPrefix SoundAs (run_in course) before.clock image
+  starts_so : (image : Image) → ConsistentAs image o.count o.tree → now.clock < 2 ^ 63 → OpensAsPrefix ConsistentAs (run_in course) before.clock image
   starts_so image sound young =
       starts_as (run_in course) before.clock image sound
       (λ s there.
@@ -102,19 +102,19 @@ module _ (tells : Type 0) (lines : List Line) (o : Opening) (history : List Pass
   module _ (stops : Run → Type 0) (medium medium' : Medium) (lost worn : Bool) (charges : Charges) (counts : medium.counts ≡ before) (counts' : medium'.counts ≡ now)
       (opens : tells → OpensAs medium.contents (course_of o []))
       (leaves : tells → IsYoung medium.contents before now course → stops (record { shape = o.shape; count = o.count; tree = o.tree; calls = marked_calls o h; syncs = syncs_of h }))
-      (ends : tells → IsYoung medium.contents before now course → (MediumRose medium medium' → ⊥) → worn ≡ false → SoundAs medium'.contents (o.count + effects h) (tree_of_history o h))
-      (none_lost : tells → lost ≡ false) (worn_is : worn ≡ true → MayBeWorn before now o.next_stamp) (charged : tells → AreCharges charges (tree_of_history o h)) where
+      (ends : tells → IsYoung medium.contents before now course → (MediumRose medium medium' → ⊥) → worn ≡ false → ConsistentAs medium'.contents (o.count + effects h) (tree_of_history o h))
+      (none_lost : tells → lost ≡ false) (worn_is : worn ≡ true → MayBeExhausted before now o.next_stamp) (charged : tells → AreCharges charges (tree_of_history o h)) where
     young_is : IsYoung medium.contents medium.counts medium'.counts course → IsYoung medium.contents before now course
     young_is = subst (λ (c : Counts × Counts). IsYoung medium.contents c.0 c.1 course) (λ k. (counts k, counts' k))
 
-    stops_so : tells → IsYoung medium.contents before now course → StopsLeavePrefixes medium.contents before stops course
+    stops_so : tells → IsYoung medium.contents before now course → CrashesLeavePrefixes medium.contents before stops course
     stops_so t young = record {
       starts = starts_so medium.contents (opens t).sound young.clock;
       leaves = subst stops (sym run_is) (leaves t young);
     }
 
     ends_so : tells → IsYoung medium.contents before now course → (MediumRose medium medium' → ⊥) → worn ≡ false → EndsAfterAll medium'.contents course
-    ends_so t young none unworn = subst (λ (x : ℕ × Tree). SoundAs medium'.contents x.0 x.1) (λ k. (sym many k, tree_is k)) (ends t young none unworn)
+    ends_so t young none unworn = subst (λ (x : ℕ × Tree). ConsistentAs medium'.contents x.0 x.1) (λ k. (sym many k, tree_is k)) (ends t young none unworn)
 
     runs : RunsLines tells lines stops medium medium' (order_of_rows rows) (syncs_of_rows rows) worn course
     runs = record {
@@ -122,14 +122,14 @@ module _ (tells : Type 0) (lines : List Line) (o : Opening) (history : List Pass
       order_is = in_order;
       answers = subst (λ (c : Counts × Counts). AnswersByTree tells c.0 c.1 course) (λ k. (sym counts k, sym counts' k)) by_tree;
       syncs_are = λ few. subst (λ (c : Counts × Counts). TellsSyncs c.0 c.1 course (syncs_of_rows rows)) (λ k. (sym counts k, sym counts' k)) (tells_syncs few);
-      stopped = λ t young. subst (λ (c : Counts). StopsLeavePrefixes medium.contents c stops course) (sym counts) (stops_so t (young_is young));
+      stopped = λ t young. subst (λ (c : Counts). CrashesLeavePrefixes medium.contents c stops course) (sym counts) (stops_so t (young_is young));
       ends = λ t young. ends_so t (young_is young);
     }
 
     pub lines_ran : LinesRan tells lines stops medium medium' rows lost worn charges course
     lines_ran = record {
       runs = runs;
-      causes = record { lost_is = none_lost; worn_is = λ is. subst (λ (c : Counts × Counts). MayBeWorn c.0 c.1 o.next_stamp) (λ k. (sym counts k, sym counts' k)) (worn_is is) };
+      causes = record { lost_is = none_lost; worn_is = λ is. subst (λ (c : Counts × Counts). MayBeExhausted c.0 c.1 o.next_stamp) (λ k. (sym counts k, sym counts' k)) (worn_is is) };
       said = printed tells o h rows table kept.known;
       places = have_places tells o h rows table kept.known;
       charged = λ t. subst (AreCharges charges) tree_is (charged t);

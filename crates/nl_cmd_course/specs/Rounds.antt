@@ -49,7 +49,7 @@ syncs_of_rows rows = filter_map (λ (row : Row). synced_row row.line row.answere
 -- ---- room
 
 -- An empty list with room for so many.
-pub record HasRoomFor {A : Type 0} (count : ℕ) (list : Table A) : Type 0 where
+pub record IsEmptyWithRoomFor {A : Type 0} (count : ℕ) (list : Table A) : Type 0 where
   pub none : list.items ≡ []
   pub room : count ≤ list.room
 
@@ -61,13 +61,13 @@ pub record HasOneMore {A : Type 0} (list : Table A) : Type 0 where
 -- The tables of a run are new, and made for these lines.
 pub record AreTablesFor (lines : List Line) (answers : TableState) (order : Table Ordered) (syncs : Table Synced) : Type 0 where
   pub table : IsTableFor lines answers
-  pub order_room : HasRoomFor (length lines) order
-  pub syncs_room : HasRoomFor (length lines) syncs
+  pub order_room : IsEmptyWithRoomFor (length lines) order
+  pub syncs_room : IsEmptyWithRoomFor (length lines) syncs
 
 -- The lists have room for the rows.
 pub record AreRoomyFor (rows : List Row) (order : Table Ordered) (syncs : Table Synced) : Type 0 where
-  pub order_room : HasRoomFor (length rows) order
-  pub syncs_room : HasRoomFor (length rows) syncs
+  pub order_room : IsEmptyWithRoomFor (length rows) order
+  pub syncs_room : IsEmptyWithRoomFor (length rows) syncs
 
 -- ---- the lines were run
 

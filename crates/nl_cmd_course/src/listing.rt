@@ -1,6 +1,6 @@
 ghost use Rattle.std.specs.Prelude.{◌≡◌, ◌≤◌, ◌+◌, ◌++◌, ◌∷◌, [], length, option_to_list};
 ghost use Rattle.nl_tree.specs.Causes.{fault_in};
-ghost use Rattle.nl_cmd_course.specs.Rounds.{HasOneMore, HasRoomFor, order_of_rows, synced_row, syncs_of_rows};
+ghost use Rattle.nl_cmd_course.specs.Rounds.{HasOneMore, IsEmptyWithRoomFor, order_of_rows, synced_row, syncs_of_rows};
 
 use nl_spec_headline::{OrderList, Ordered, SyncList, Synced};
 use nl_tree::{FaultReply, Reply};
@@ -8,8 +8,8 @@ use nl_workers::AnswerTable;
 
 /// Lists the answered lines, and the syncs among them that were answered ok, in the order of their places.
 pub fn list_answers(answers: &AnswerTable, order: &mut OrderList, syncs: &mut SyncList)
-    requires order { HasRoomFor (length answers.now.rows) order.old }
-    requires syncs { HasRoomFor (length answers.now.rows) syncs.old }
+    requires order { IsEmptyWithRoomFor (length answers.now.rows) order.old }
+    requires syncs { IsEmptyWithRoomFor (length answers.now.rows) syncs.old }
     ensures order { order.new.items ≡ order_of_rows answers.now.rows }
     ensures syncs { syncs.new.items ≡ syncs_of_rows answers.now.rows }
 {

@@ -4,7 +4,7 @@ ghost use Rattle.nl_core.specs.Core.{IsCore};
 ghost use Rattle.nl_calls_steps.specs.Steps.{ReadsOn};
 ghost use Rattle.nl_field.specs.CrashStates.{Rose};
 ghost use Rattle.nl_print.specs.Texts.{tree_text};
-ghost use Rattle.nl_cmd_print.specs.Showing.{ReadsFor, ReadsUntil, Shows, ShowsNext, ended_by, paths_text};
+ghost use Rattle.nl_cmd_print.specs.Showing.{ReadsFor, ReadsUntil, PrintsText, ShowsNext, ended_by, paths_text};
 ghost use Rattle.nl_volume_list.specs.Next.{IsOnWay};
 
 use crate::laws::items_are_printed;
@@ -41,7 +41,7 @@ pub fn print_tree<K: Sink, D: MovingPages>(
     requires fresh { walk.old ≡ record { path = []; nodes = []; room = core.old.shape.nodes } }
     ensures core { IsCore D.Counts core.new }
     ensures same { ReadsOn D.Counts core.old core.new }
-    ensures shows { Shows D.Counts core.old (λ tree. tree_text count tree) (K.taken sink.old) (K.taken sink.new) result }
+    ensures shows { PrintsText D.Counts core.old (λ tree. tree_text count tree) (K.taken sink.old) (K.taken sink.new) result }
     ensures reads { ReadsFor D.Counts core.old.device core.new.device result }
     ensures never_falls { K.faults sink.old ≤ K.faults sink.new }
     ensures cause { result ≡ Shown.NotTaken → Rose (K.faults sink.old) (K.faults sink.new) }
@@ -65,7 +65,7 @@ fn print_paths<K: Sink, D: MovingPages>(
     requires before { walk.old.nodes ≡ [] }
     ensures core { IsCore D.Counts core.new }
     ensures same { ReadsOn D.Counts core.old core.new }
-    ensures shows { Shows D.Counts core.old paths_text (K.taken sink.old) (K.taken sink.new) result }
+    ensures shows { PrintsText D.Counts core.old paths_text (K.taken sink.old) (K.taken sink.new) result }
     ensures reads { ReadsFor D.Counts core.old.device core.new.device result }
     ensures never_falls { K.faults sink.old ≤ K.faults sink.new }
     ensures cause { result ≡ Shown.NotTaken → Rose (K.faults sink.old) (K.faults sink.new) }

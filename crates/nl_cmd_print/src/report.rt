@@ -3,7 +3,7 @@ ghost use Rattle.std.specs.Prelude.{◌≡◌, ◌≤◌, length};
 ghost use Rattle.nl_journal_commit.specs.Holding.{running_holders};
 ghost use Rattle.nl_core.specs.Core.{IsCore};
 ghost use Rattle.nl_field.specs.CrashStates.{Rose};
-ghost use Rattle.nl_cmd_print.specs.Showing.{Reports};
+ghost use Rattle.nl_cmd_print.specs.Showing.{PrintsReport};
 
 use nl_core::Core;
 use nl_iface::MovingPages;
@@ -24,7 +24,7 @@ pub fn print_report<K: Sink, D: MovingPages>(
 ) -> SinkAnswer
     requires core { IsCore D.Counts core.now }
     requires files { files ≡ length (running_holders D.Counts core.now.device core.now.meta) }
-    ensures reports { Reports D.Counts core.now least greatest (K.taken sink.old) (K.taken sink.new) result }
+    ensures reports { PrintsReport D.Counts core.now least greatest (K.taken sink.old) (K.taken sink.new) result }
     ensures never_falls { K.faults sink.old ≤ K.faults sink.new }
     ensures cause { result ≡ SinkAnswer.Failed → Rose (K.faults sink.old) (K.faults sink.new) }
 {

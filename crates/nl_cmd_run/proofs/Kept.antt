@@ -5,7 +5,7 @@ use Rattle.nl_field.specs.CrashStates.{top}
 use Rattle.nl_field.specs.Medium.{shape_of_image}
 use Rattle.nl_field.specs.Page.{Image}
 use Rattle.nl_field.specs.Virtual.{virtual_bytes}
-use Rattle.nl_tree.specs.Causes.{Counts, MayBeWorn, NeverFall, max_stamp}
+use Rattle.nl_tree.specs.Causes.{Counts, MayBeExhausted, NeverFall, max_stamp}
 use Rattle.nl_iface.specs.declared.counts.Counts.{Ghosts}
 use Rattle.nl_meta.specs.Committed.{next_number}
 use Rattle.nl_core.specs.Core.{begun_of}
@@ -14,13 +14,13 @@ use Rattle.nl_turns.specs.History.{Opening, effects, opening_counts}
 use Rattle.nl_turns.specs.declared.entry.Entry.{Entry}
 use Rattle.nl_volume_stage.specs.Serving.{counts_of}
 use Rattle.nl_volume.specs.Closing.{IsYoungAtEnd}
-use Rattle.nl_volume_stage.specs.Standing.{StandsFor}
+use Rattle.nl_volume_stage.specs.Standing.{RepresentsHistory}
 use Rattle.nl_volume_stage.proofs.Causes.{still_cause}
 use Rattle.nl_spec_headline.specs.Course.{Course, count_after}
 use Rattle.nl_spec_headline.specs.Headline.{IsYoung}
 use Rattle.nl_cmd_course.proofs.Whole.{HasKept}
 
-module _ {D : Type 0} (g : Ghosts D) (origin : Core D) (o : Opening) (h : List Entry) (v : Core D) (done : ℕ) (s : StandsFor g origin o h v done) (now : Counts) (later : NeverFall (counts_of g v.device) now)
+module _ {D : Type 0} (g : Ghosts D) (origin : Core D) (o : Opening) (h : List Entry) (v : Core D) (done : ℕ) (s : RepresentsHistory g origin o h v done) (now : Counts) (later : NeverFall (counts_of g v.device) now)
     (clock : now.clock ≤ top) (writes : now.write_faults ≤ top) where
   pub has_kept : HasKept g.tells o h (opening_counts o) (counts_of g v.device) now
   has_kept = record {
@@ -41,7 +41,7 @@ module _ {D : Type 0} (g : Ghosts D) (origin : Core D) (o : Opening) (h : List E
   }
 
   -- a volume that closing finds worn has used its numbers up
-  pub worn_so : 2 ^ 62 ≤ g.next_stamp v.device → MayBeWorn (opening_counts o) now o.next_stamp
+  pub worn_so : 2 ^ 62 ≤ g.next_stamp v.device → MayBeExhausted (opening_counts o) now o.next_stamp
   worn_so worn = ⊎_elim (λ low. ⊎_elim (λ less. inl (used low less)) (λ full. inr (inr (omega (arith, full, writes)))) (cases_lt now.write_faults top)) (λ full. inr (inl (omega (arith, full, clock)))) (cases_lt now.clock top)
     where
       used : now.clock < top → now.write_faults < top → max_stamp ≤ o.next_stamp + (now.clock - o.clock) + (now.write_faults - o.write_faults)

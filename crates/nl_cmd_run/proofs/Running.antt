@@ -7,19 +7,19 @@ use Rattle.nl_tree.specs.Tree.{Tree}
 use Rattle.nl_tree.specs.declared.call.Line.{Line}
 use Rattle.nl_iface.specs.declared.counts.Counts.{Ghosts}
 use Rattle.nl_core.specs.Core.{begun_of}
-use Rattle.nl_core.specs.Trees.{CoreRuns}
+use Rattle.nl_core.specs.Trees.{CoreRepresentsTree}
 use Rattle.nl_core.specs.declared.state.Core.{Core}
 use Rattle.nl_meta.specs.Consistent.{PageOfStamp}
 use Rattle.nl_spec_image.specs.Crash.{Run}
-use Rattle.nl_spec_image.specs.Stands.{SoundAs}
+use Rattle.nl_spec_image.specs.Stands.{ConsistentAs}
 use Rattle.nl_turns.specs.History.{Opening, effects, opening_counts, tree_after}
 use Rattle.nl_turns.specs.Seat.{SeatState, entries}
 use Rattle.nl_turns.specs.declared.entry.Entry.{Entry}
 use Rattle.nl_volume_stage.specs.Serving.{counts_of}
 use Rattle.nl_volume.specs.Closing.{IsYoungAtEnd}
 use Rattle.nl_volume.specs.Opening.{opening_of}
-use Rattle.nl_volume_stage.specs.Standing.{StandsFor, run_of}
-use Rattle.nl_workers.specs.Rounds.{AreRows, RoundsRan}
+use Rattle.nl_volume_stage.specs.Standing.{RepresentsHistory, run_of}
+use Rattle.nl_workers.specs.Rounds.{AreRows, EpochsRan}
 use Rattle.nl_workers.specs.Table.{Row}
 use Rattle.nl_spec_headline.specs.Headline.{IsYoung, OpensAs}
 use Rattle.nl_spec_headline.specs.Streams.{Medium}
@@ -31,8 +31,8 @@ use Rattle.nl_cmd_run.proofs.Kept.{has_kept, worn_so, young_at_end}
 use Rattle.nl_cmd_course.proofs.Whole.{lines_ran, many}
 
 module _ {D : Type 0} (g : Ghosts D) (origin v : Core D) (done : ℕ) (tree : Tree) (lines : List Line) (seat after : SeatState) (rows : List Row)
-    (opening_is : seat.opening ≡ opening_of g origin tree lines) (rise : AreLines lines) (ran : RoundsRan g.tells seat lines rows after)
-    (stands : StandsFor g origin (opening_of g origin tree lines) (entries after.seen) v done) where
+    (opening_is : seat.opening ≡ opening_of g origin tree lines) (rise : AreLines lines) (ran : EpochsRan g.tells seat lines rows after)
+    (stands : RepresentsHistory g origin (opening_of g origin tree lines) (entries after.seen) v done) where
   abbrev o : Opening
   o = opening_of g origin tree lines
 
@@ -44,10 +44,10 @@ module _ {D : Type 0} (g : Ghosts D) (origin v : Core D) (done : ℕ) (tree : Tr
 
   module _ (stops : Run → Type 0) (medium medium' : Medium) (lost worn : Bool) (charges : Charges) (counts : medium.counts ≡ opening_counts o) (later : NeverFall (counts_of g v.device) medium'.counts)
       (clock : medium'.counts.clock ≤ top) (writes : medium'.counts.write_faults ≤ top)
-      (opened : OpensOn g medium.contents origin) (sound : g.tells → SoundAs medium.contents origin.count tree)
+      (opened : OpensOn g medium.contents origin) (sound : g.tells → ConsistentAs medium.contents origin.count tree)
       (leaves : IsYoungAtEnd g.tells o h (begun_of origin) medium'.counts.clock → stops (run_of o h))
-      (ends : IsYoungAtEnd g.tells o h (begun_of origin) medium'.counts.clock → (FaultRose (opening_counts o) medium'.counts → ⊥) → worn ≡ false → SoundAs medium'.contents (o.count + effects h) (tree_after o h))
-      (none_lost : g.tells → lost ≡ false) (worn_is : IsTrue worn → 2 ^ 62 ≤ g.next_stamp v.device) (charged : (page_of_stamp : ℕ → Option PageOfStamp) (tree : Tree) → CoreRuns g v page_of_stamp tree → AreCharges charges tree) where
+      (ends : IsYoungAtEnd g.tells o h (begun_of origin) medium'.counts.clock → (FaultRose (opening_counts o) medium'.counts → ⊥) → worn ≡ false → ConsistentAs medium'.contents (o.count + effects h) (tree_after o h))
+      (none_lost : g.tells → lost ≡ false) (worn_is : IsTrue worn → 2 ^ 62 ≤ g.next_stamp v.device) (charged : (page_of_stamp : ℕ → Option PageOfStamp) (tree : Tree) → CoreRepresentsTree g v page_of_stamp tree → AreCharges charges tree) where
     opens_so : g.tells → OpensAs medium.contents (course_of o [])
     opens_so t = let k = opened.opens t in record { sound = sound t; shape = k.shape; next_stamp = k.next_stamp }
 

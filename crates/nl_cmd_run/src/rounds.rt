@@ -1,7 +1,7 @@
 ghost use Rattle.std.specs.Prelude.{◌≡◌, ◌+◌, [], true, length, IfErr, IfOk};
 ghost use Rattle.nl_device.specs.Medium.{medium_of};
 ghost use Rattle.nl_core_open.specs.Opening.{OnlyReadsMedium};
-ghost use Rattle.nl_spec_image.specs.Stands.{SoundAs};
+ghost use Rattle.nl_spec_image.specs.Stands.{ConsistentAs};
 ghost use Rattle.nl_tree.specs.Calls.{AreLines};
 ghost use Rattle.nl_tree.specs.Tree.{Tree};
 ghost use Rattle.nl_workers.specs.Rounds.{IsFirstSeat};
@@ -79,7 +79,7 @@ fn run_opened<Rt: Threads + Wait + Sync, M: Nand + Send, G: Gate + Sync>(
     gate: &G,
 ) -> Result<Ran<M>, Volume<M>>
     requires opened { ⟦<Volume<M> as Told>⟧.opened_on (M.contents (medium_of volume.core.device)) volume }
-    requires stands { (tree : Tree) → (M.tells → SoundAs (M.contents (medium_of volume.core.device)) volume.core.count tree)
+    requires stands { (tree : Tree) → (M.tells → ConsistentAs (M.contents (medium_of volume.core.device)) volume.core.count tree)
         → ⟦<Volume<M> as Kept>⟧.stands volume (⟦<Volume<M> as Told>⟧.opening volume tree lines.now) [] volume }
     requires table { IsTableFor lines.now tables.old.answers }
     ensures ran { IfOk result (λ r. (course : Course) × (r.count ≡ course.count) × LinesRan M.tells lines.now
@@ -127,9 +127,9 @@ fn open_lock<M: Nand>(
     lines: &Lines,
 ) -> Result<(Turns<Volume<M>>, TurnSeat), Volume<M>>
     requires opened { ⟦<Volume<M> as Told>⟧.opened_on (M.contents (medium_of volume.core.device)) volume }
-    requires stands { (tree : Tree) → (M.tells → SoundAs (M.contents (medium_of volume.core.device)) volume.core.count tree)
+    requires stands { (tree : Tree) → (M.tells → ConsistentAs (M.contents (medium_of volume.core.device)) volume.core.count tree)
         → ⟦<Volume<M> as Kept>⟧.stands volume (⟦<Volume<M> as Told>⟧.opening volume tree lines.now) [] volume }
-    ensures opening { IfOk result (λ r. (tree : Tree) × (M.tells → SoundAs (M.contents (medium_of volume.core.device)) volume.core.count tree)
+    ensures opening { IfOk result (λ r. (tree : Tree) × (M.tells → ConsistentAs (M.contents (medium_of volume.core.device)) volume.core.count tree)
         × (r.1.opening ≡ ⟦<Volume<M> as Told>⟧.opening volume tree lines.now)) }
     ensures first { IfOk result (λ r. IsFirstSeat lines.now r.1) }
     ensures lock { IfOk result (λ r. (r.1.lock ≡ r.0.name) × (r.1.places + 1 ≡ r.0.seats) × (r.0.origin ≡ volume)) }

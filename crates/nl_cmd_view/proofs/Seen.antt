@@ -9,13 +9,13 @@ use Rattle.nl_spec_headline.specs.Streams.{Medium, MediumRose, Prints, Stream, U
 use Rattle.nl_spec_headline.specs.declared.lists.Ordered.{Ordered}
 use Rattle.nl_spec_headline.specs.declared.lists.Synced.{Synced}
 use Rattle.nl_iface.specs.declared.counts.Counts.{Ghosts}
-use Rattle.nl_io.specs.Streams.{Writes}
+use Rattle.nl_io.specs.Streams.{WritesStream}
 use Rattle.nl_io.specs.declared.sink.SinkAnswer.{SinkAnswer}
 use Rattle.nl_io.specs.declared.sink.SinkAnswer.TheVariants as answers
 use Rattle.nl_nand.specs.declared.geometry.Geometry.{Geometry}
 use Rattle.nl_core_open.specs.Opening.{OnlyReadsMedium}
 use Rattle.nl_io.proofs.StreamsLaws.{stopped}
-use Rattle.nl_cmd_print.specs.Showing.{Begins, IsShown, ReadsFor, sink_answer}
+use Rattle.nl_cmd_print.specs.Showing.{IsTextPrefix, IsShown, ReadsFor, sink_answer}
 use Rattle.nl_cmd_print.specs.declared.paths.Shown.{Shown}
 use Rattle.nl_cmd_print.specs.declared.paths.Shown.TheVariants as shown
 use Rattle.nl_cmd_view.specs.Looking.{LookEnds, ShowsTree, TreeEnds, cut_short, not_cut, not_seen, seen}
@@ -68,7 +68,7 @@ status_since reads writes status answer start middle before =
 -- ---- endings
 
 -- the whole, as a beginning and a rest
-with_rest : (text whole : List ℕ) → Begins text whole → text ++ drop (length text) whole ≡ whole
+with_rest : (text whole : List ℕ) → IsTextPrefix text whole → text ++ drop (length text) whole ≡ whole
 with_rest text whole begins = ap (λ (t : List ℕ). t ++ drop (length text) whole) begins ∙ take-append-drop (length text) whole
 
 -- A command has only read the medium and lists no line.
@@ -82,7 +82,7 @@ differ : answers.Took ≡ answers.Failed → ⊥
 differ e = cc
 
 module _ (tells : Type 0) (sink sink' : Stream) (start middle : Medium) (order : List Ordered) (syncs : List Synced) (status : ℕ) (looks : Looked tells sink sink' start middle order syncs) where
-  ends_before : (answer : SinkAnswer) (text : List ℕ) → Writes sink.bytes sink'.bytes answer text → (answer ≡ answers.Failed → Rose sink.faults sink'.faults) → EndsBefore tells text sink sink' start middle order syncs
+  ends_before : (answer : SinkAnswer) (text : List ℕ) → WritesStream sink.bytes sink'.bytes answer text → (answer ≡ answers.Failed → Rose sink.faults sink'.faults) → EndsBefore tells text sink sink' start middle order syncs
   ends_before answer text taken cause =
       record {
         prints = record { answer = answer; taken = taken; never_falls = looks.later; cause = cause };
@@ -93,7 +93,7 @@ module _ (tells : Type 0) (sink sink' : Stream) (start middle : Medium) (order :
 
   -- the sink was given a text, and no read has failed
   pub was_seen : (shows : Image → List ℕ → Type 0) (answer : SinkAnswer) (text : List ℕ) → (tells → shows start.contents text) → middle.counts.read_faults ≡ start.counts.read_faults
-      → Writes sink.bytes sink'.bytes answer text → (answer ≡ answers.Failed → Rose sink.faults sink'.faults) → IsStatusOf status (MediumRose start middle) answer
+      → WritesStream sink.bytes sink'.bytes answer text → (answer ≡ answers.Failed → Rose sink.faults sink'.faults) → IsStatusOf status (MediumRose start middle) answer
       → LookEnds tells shows sink sink' start middle order syncs status
   was_seen shows answer text shown still taken cause done = seen text shown still (ends_before answer text taken cause) (done sink sink' text taken cause)
 
@@ -102,7 +102,7 @@ module _ (tells : Type 0) (sink sink' : Stream) (start middle : Medium) (order :
     shown_rest : text ++ drop (length text) whole ≡ whole → tells → ShowsTree start.contents (text ++ drop (length text) whole)
     shown_rest is t = subst (ShowsTree start.contents) (sym is) (shown_whole t)
 
-    pub was_shown : (answer : Shown) → (tells → IsShown answer text whole) → Writes sink.bytes sink'.bytes (sink_answer answer) text → (answer ≡ shown.NotTaken → Rose sink.faults sink'.faults)
+    pub was_shown : (answer : Shown) → (tells → IsShown answer text whole) → WritesStream sink.bytes sink'.bytes (sink_answer answer) text → (answer ≡ shown.NotTaken → Rose sink.faults sink'.faults)
         → (answer ≡ shown.All → middle.counts.read_faults ≡ start.counts.read_faults) → (answer ≡ shown.NotTaken → middle.counts.read_faults ≡ start.counts.read_faults)
         → (answer ≡ shown.Fault → Rose start.counts.read_faults middle.counts.read_faults) → (answer ≡ shown.Lost → tells → ⊥)
         → (answer ≡ shown.Fault → status ≡ 5) → (answer ≡ shown.Lost → status ≡ 5) → (answer ≡ shown.All → IsStatusOf status (MediumRose start middle) answers.Took)

@@ -12,7 +12,7 @@ use Rattle.nl_spec_headline.specs.declared.lists.Ordered.{Ordered}
 use Rattle.nl_spec_headline.specs.declared.lists.Synced.{Synced}
 use Rattle.nl_core_open.specs.Figures.{pairs_of}
 use Rattle.nl_print.specs.Texts.{report_text, tree_text}
-use Rattle.nl_spec_image.specs.Stands.{SoundAs}
+use Rattle.nl_spec_image.specs.Stands.{ConsistentAs}
 use Rattle.nl_tree.specs.Charges.{data_charge, meta_charge, node_charge}
 use Rattle.nl_tree.specs.Tree.{Tree}
 
@@ -20,15 +20,15 @@ use Rattle.nl_tree.specs.Tree.{Tree}
 pub record ShowsTree (image : Image) (text : List ℕ) : Type 0 where
   pub count : ℕ
   pub tree : Tree
-  pub sound : SoundAs image count tree
+  pub sound : ConsistentAs image count tree
   pub text_is : text ≡ tree_text count tree
 
 -- The text tells the charges of the tree as which the image is sound, the pairs right after an opening, and the wear and the next write
 -- sequence number of the readable pages.
-pub record Reports (image : Image) (text : List ℕ) : Type 0 where
+pub record ReportsImage (image : Image) (text : List ℕ) : Type 0 where
   pub count : ℕ
   pub tree : Tree
-  pub sound : SoundAs image count tree
+  pub sound : ConsistentAs image count tree
   pub text_is : text
       ≡ report_text (shape_of_image image) count (data_charge tree) (node_charge tree) (meta_charge tree) (pairs_of image)
       (least_wear image) (greatest_wear image) (next_stamp_of image)

@@ -1,6 +1,6 @@
 //! Laws of the definitions. Each function stands for the law that its contract names.
 ghost use Rattle.nl_cmd_view.specs.Complete.{LookCompletes, TreeCompletes};
-ghost use Rattle.nl_cmd_view.specs.Looking.{Reports};
+ghost use Rattle.nl_cmd_view.specs.Looking.{ReportsImage};
 
 use nl_cmd_words::laws::{done_completes, opening_completes};
 use nl_nand::Nand;
@@ -8,7 +8,7 @@ use nl_nand::Nand;
 /// Where nothing fails, the paths of a sound image are printed, and its report, unless memory is wanting.
 pub fn look_completes<M: Nand>()
     ensures trees { TreeCompletes M.tells }
-    ensures reports { LookCompletes M.tells Reports }
+    ensures reports { LookCompletes M.tells ReportsImage }
 {
     done_completes();
     opening_completes::<M>();

@@ -2,7 +2,7 @@
 ghost use Rattle.std.specs.Prelude.{◌≡◌, ℕ};
 ghost use Rattle.nl_field.specs.Page.{Image};
 ghost use Rattle.nl_spec_headline.specs.Streams.{medium_seen, sink_seen};
-ghost use Rattle.nl_cmd_view.specs.Looking.{LookEnds, Reports};
+ghost use Rattle.nl_cmd_view.specs.Looking.{LookEnds, ReportsImage};
 
 use crate::refusing::refused;
 use nl_cmd_print::print_report;
@@ -16,7 +16,7 @@ use std::alloc::Global;
 /// it has, the least and the greatest wear, and its next write sequence number. The medium is only read, and that before anything is
 /// printed.
 pub fn report<K: Sink, M: Nand>(alloc: Global, sink: &mut K, media: M) -> Done<M>
-    ensures ended { LookEnds M.tells Reports (sink_seen K.Sink sink.old) (sink_seen K.Sink sink.new)
+    ensures ended { LookEnds M.tells ReportsImage (sink_seen K.Sink sink.old) (sink_seen K.Sink sink.new)
         (medium_seen M.Nand media) (medium_seen M.Nand result.media)
         result.order.items result.syncs.items result.status }
     ensures left { M.tells → (m : ℕ) (c : Image) → M.left result.media m c → M.left media m c }

@@ -1,6 +1,6 @@
 -- Where nothing fails, a command is carried out.
 use Rattle.std.proofs.Common.{inl, inr}
-use Rattle.nl_core_open.specs.Laws.{SoundIsReadable}
+use Rattle.nl_core_open.specs.Laws.{ConsistentIsReadable}
 use Rattle.nl_cmd_words.specs.Complete.{CheckCompletes, DoneCompletes, FormatCompletes, OpeningCompletes}
 use Rattle.nl_cmd_words.specs.Ends.{blank, check_blank, check_fault, check_no_memory, damaged, finds, format_fault, format_no_memory, formatted, is_sound, medium_fault, no_memory}
 
@@ -15,7 +15,7 @@ format_completes tells blocks pages source source' sink sink' medium medium' ord
 format_completes tells blocks pages source source' sink sink' medium medium' order syncs status (formatted text made prints no_lines no_syncs done) none =
     inl (done_completes source source' sink sink' medium medium' status text done none)
 
-module _ (readable : SoundIsReadable) (tells : Type 0) where
+module _ (readable : ConsistentIsReadable) (tells : Type 0) where
   pub opening_completes : OpeningCompletes tells
   opening_completes source source' sink sink' medium medium' status count text (no_memory six is) starts none = six
   opening_completes source source' sink sink' medium medium' status count text (medium_fault five is rose) starts none = absurd (none.medium_stays (inl rose))

@@ -14,22 +14,22 @@ use Rattle.nl_spec_headline.specs.declared.lists.Ordered.{Ordered}
 use Rattle.nl_spec_headline.specs.declared.lists.Synced.{Synced}
 use Rattle.nl_meta.specs.Walk.{walk}
 use Rattle.nl_print.specs.Texts.{findings_text, sound_text}
-use Rattle.nl_spec_image.specs.Stands.{SoundAs}
-use Rattle.nl_spec_image.specs.StandsLaws.{WalkIsSoundness}
+use Rattle.nl_spec_image.specs.Stands.{ConsistentAs}
+use Rattle.nl_spec_image.specs.StandsLaws.{WalkDecidesConsistency}
 use Rattle.nl_tree.specs.Tree.{Tree}
 use Rattle.nl_cmd_words.specs.Ends.{CheckEnds, finds, is_sound}
 use Rattle.nl_cmd_words.specs.Others.{IsDamaged}
 use Rattle.nl_cmd_words.proofs.Ending.{done_since}
 
-module _ (walk_is_soundness : WalkIsSoundness) (image : Image) (whole : IsTrue (is_image image)) (bits : Findings) (count : ℕ) (checks : Checks image bits count) where
-  found_sound : bits_of bits ≡ 0 → (tree : Tree) × SoundAs image count tree
+module _ (walk_is_soundness : WalkDecidesConsistency) (image : Image) (whole : IsTrue (is_image image)) (bits : Findings) (count : ℕ) (checks : Checks image bits count) where
+  found_sound : bits_of bits ≡ 0 → (tree : Tree) × ConsistentAs image count tree
   found_sound none =
       let clean : walk image ≡ None = checks.empty.0 none in
       let k = (walk_is_soundness image whole).0 clean in
       let c = checks.sound clean in
       let same : k.2.stands.metadata.super_rec ≡ c.0 = cc (sym k.2.stands.metadata.numbers.spelled ∙ c.1) in
       let is : k.0 ≡ count = sym k.2.stands.count_of_calls ∙ ap (λ r. r.count) same ∙ c.2 in
-      (k.1, subst (λ n. SoundAs image n k.1) is k.2)
+      (k.1, subst (λ n. ConsistentAs image n k.1) is k.2)
 
   found_damaged : bits_of bits ≢ 0 → readable_pages image ≢ [] → (place : Place) × IsDamaged image place
   found_damaged some readable = by (walk image) refl
@@ -39,7 +39,7 @@ module _ (walk_is_soundness : WalkIsSoundness) (image : Image) (whole : IsTrue (
       by (Some place) is = (place, record { readable = readable; first = is; not_sound = λ sound. some (checks.empty.1 ((walk_is_soundness image whole).1 sound)) })
 
 -- A check that found out what there is. The counts of faults before it are these.
-pub check_found : (walk_is_soundness : WalkIsSoundness) (tells : Type 0) (bits : Findings) (count reads writes : ℕ) (sink sink' : Stream) (medium middle medium' : Medium) (order : List Ordered) (syncs : List Synced) (status : ℕ)
+pub check_found : (walk_is_soundness : WalkDecidesConsistency) (tells : Type 0) (bits : Findings) (count reads writes : ℕ) (sink sink' : Stream) (medium middle medium' : Medium) (order : List Ordered) (syncs : List Synced) (status : ℕ)
     → reads ≡ medium.counts.read_faults → writes ≡ medium.counts.write_faults → medium' ≡ middle
     → (tells → IsTrue (is_image medium.contents)) → (tells → Checks medium.contents bits count) → (tells → readable_pages medium.contents ≢ [])
     → Untouched tells medium middle → order ≡ [] → syncs ≡ []

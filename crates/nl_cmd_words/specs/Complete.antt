@@ -5,7 +5,7 @@ use Rattle.nl_spec_headline.specs.Status.{DoneStatus}
 use Rattle.nl_spec_headline.specs.Streams.{Medium, MediumRose, Stream}
 use Rattle.nl_spec_headline.specs.declared.lists.Ordered.{Ordered}
 use Rattle.nl_spec_headline.specs.declared.lists.Synced.{Synced}
-use Rattle.nl_spec_image.specs.Stands.{SoundAs}
+use Rattle.nl_spec_image.specs.Stands.{ConsistentAs}
 use Rattle.nl_tree.specs.Tree.{Tree}
 use Rattle.nl_cmd_words.specs.Ends.{CheckEnds, FormatEnds, NotOpened}
 
@@ -16,14 +16,14 @@ pub record NothingRose (source source' sink sink' : Stream) (medium medium' : Me
   pub medium_stays : MediumRose medium medium' → ⊥
 
 -- The medium tells its contents, and starts sound, as some tree after this count of calls.
-pub record StartsSound (tells : Type 0) (medium : Medium) (count : ℕ) : Type 0 where
+pub record StartsConsistent (tells : Type 0) (medium : Medium) (count : ℕ) : Type 0 where
   pub told : tells
   pub tree : Tree
-  pub sound : SoundAs medium.contents count tree
+  pub sound : ConsistentAs medium.contents count tree
 
 -- The command was carried out, unless memory was wanting.
-abbrev pub Completes : ℕ → Type 0
-Completes status = (status ≡ 0) ⊎ (status ≡ 6)
+abbrev pub IsCarriedOut : ℕ → Type 0
+IsCarriedOut status = (status ≡ 0) ⊎ (status ≡ 6)
 
 -- Where nothing fails a command that was carried out ends with status 0.
 abbrev pub DoneCompletes : Type 0
@@ -35,7 +35,7 @@ DoneCompletes =
 abbrev pub OpeningCompletes : Type 0 → Type 0
 OpeningCompletes tells =
     (source source' sink sink' : Stream) (medium medium' : Medium) (status count : ℕ) (text : List ℕ)
-    → NotOpened tells medium medium' status text → StartsSound tells medium count → NothingRose source source' sink sink' medium medium'
+    → NotOpened tells medium medium' status text → StartsConsistent tells medium count → NothingRose source source' sink sink' medium medium'
     → status ≡ 6
 
 -- Where nothing fails a volume is made.
@@ -44,11 +44,11 @@ FormatCompletes tells =
     (blocks pages : ℕ) (source source' sink sink' : Stream) (medium medium' : Medium) (order : List Ordered) (syncs : List Synced)
     (status : ℕ)
     → FormatEnds tells blocks pages sink sink' medium medium' order syncs status → NothingRose source source' sink sink' medium medium'
-    → Completes status
+    → IsCarriedOut status
 
 -- Where nothing fails a sound image is found sound.
 abbrev pub CheckCompletes : Type 0 → Type 0
 CheckCompletes tells =
     (source source' sink sink' : Stream) (medium medium' : Medium) (order : List Ordered) (syncs : List Synced) (status count : ℕ)
-    → CheckEnds tells sink sink' medium medium' order syncs status → StartsSound tells medium count
-    → NothingRose source source' sink sink' medium medium' → Completes status
+    → CheckEnds tells sink sink' medium medium' order syncs status → StartsConsistent tells medium count
+    → NothingRose source source' sink sink' medium medium' → IsCarriedOut status

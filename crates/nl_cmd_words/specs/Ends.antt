@@ -7,19 +7,19 @@ use Rattle.nl_spec_headline.specs.Status.{DoneStatus}
 use Rattle.nl_spec_headline.specs.Streams.{Medium, MediumRose, Prints, ReadsWhole, Stream, Untouched}
 use Rattle.nl_spec_headline.specs.declared.lists.Ordered.{Ordered}
 use Rattle.nl_spec_headline.specs.declared.lists.Synced.{Synced}
-use Rattle.nl_io.specs.Streams.{Writes}
+use Rattle.nl_io.specs.Streams.{WritesStream}
 use Rattle.nl_io.specs.declared.sink.SinkAnswer.{SinkAnswer}
 use Rattle.nl_io.specs.declared.sink.SinkAnswer.TheVariants as answers
 use Rattle.nl_print.specs.Texts.{damaged_text}
 use Rattle.nl_script.specs.Script.{max_script, script}
 use Rattle.nl_script.specs.declared.refusal.ScriptRefusal.TheVariants.{Refused}
 use Rattle.nl_script.specs.declared.why.Why.{Why}
-use Rattle.nl_cmd_words.specs.Others.{FindsFaults, FindsSound, Formats, IsBlankImage, IsDamaged}
+use Rattle.nl_cmd_words.specs.Others.{FindsFaults, FindsConsistent, Formats, IsBlankImage, IsDamaged}
 
 -- The status is that of a command that was carried out, with whatever text the sink has taken so.
 abbrev pub IsStatusOf : ℕ → Type 0 → SinkAnswer → Type 0
 IsStatusOf status failed answer =
-    (sink sink' : Stream) (text : List ℕ) → Writes sink.bytes sink'.bytes answer text
+    (sink sink' : Stream) (text : List ℕ) → WritesStream sink.bytes sink'.bytes answer text
     → (answer ≡ answers.Failed → Rose sink.faults sink'.faults) → DoneStatus status failed sink sink' text
 
 -- An ending before any line was run: it prints its text, leaves the medium, and lists no line and no sync.
@@ -69,6 +69,6 @@ pub data CheckEnds (tells : Type 0) (sink sink' : Stream) (medium medium' : Medi
   finds : (text : List ℕ) → status ≡ 8 → FindsFaults tells medium.contents text
       → EndsBefore tells text sink sink' medium medium' order syncs
       → CheckEnds tells sink sink' medium medium' order syncs status
-  is_sound : (text : List ℕ) → FindsSound tells medium.contents text → EndsBefore tells text sink sink' medium medium' order syncs
+  is_sound : (text : List ℕ) → FindsConsistent tells medium.contents text → EndsBefore tells text sink sink' medium medium' order syncs
       → DoneStatus status (MediumRose medium medium') sink sink' text
       → CheckEnds tells sink sink' medium medium' order syncs status

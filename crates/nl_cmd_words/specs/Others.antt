@@ -10,7 +10,7 @@ use Rattle.nl_spec_headline.specs.Streams.{Medium}
 use Rattle.nl_meta.specs.Walk.{AreFindings, walk}
 use Rattle.nl_print.specs.Texts.{findings_text, formatted_text, sound_text}
 use Rattle.nl_spec_image.specs.Formatted.{IsFormatted}
-use Rattle.nl_spec_image.specs.Stands.{Sound, SoundAs}
+use Rattle.nl_spec_image.specs.Stands.{IsConsistentImage, ConsistentAs}
 use Rattle.nl_tree.specs.Tree.{Tree, empty_tree}
 
 -- ---- format
@@ -20,7 +20,7 @@ use Rattle.nl_tree.specs.Tree.{Tree, empty_tree}
 pub record Formats (tells : Type 0) (blocks pages : ℕ) (medium' : Medium) (text : List ℕ) : Type 0 where
   pub geometry : medium'.geometry ≡ record { blocks = blocks; pages = pages }
   pub two_pages : tells → IsFormatted blocks pages medium'.contents
-  pub sound : tells → SoundAs medium'.contents 0 empty_tree
+  pub sound : tells → ConsistentAs medium'.contents 0 empty_tree
   pub text_is : text ≡ formatted_text (shape_for blocks pages)
 
 -- ---- refused images
@@ -33,15 +33,15 @@ IsBlankImage image = readable_pages image ≡ []
 pub record IsDamaged (image : Image) (place : Place) : Type 0 where
   pub readable : readable_pages image ≢ []
   pub first : walk image ≡ Some place
-  pub not_sound : Sound image → ⊥
+  pub not_sound : IsConsistentImage image → ⊥
 
 -- ---- check
 
 -- No finding, and the count of calls as which the image is sound.
-pub record FindsSound (tells : Type 0) (image : Image) (text : List ℕ) : Type 0 where
+pub record FindsConsistent (tells : Type 0) (image : Image) (text : List ℕ) : Type 0 where
   pub count : ℕ
   pub text_is : text ≡ sound_text count
-  pub sound : tells → (tree : Tree) × SoundAs image count tree
+  pub sound : tells → (tree : Tree) × ConsistentAs image count tree
 
 -- Some findings, which are those of the image: it has a readable page and is not sound.
 pub record FindsFaults (tells : Type 0) (image : Image) (text : List ℕ) : Type 0 where

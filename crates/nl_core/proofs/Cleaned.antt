@@ -8,9 +8,9 @@ use Rattle.nl_core_clean.specs.declared.cleaning.Cleaned.{Cleaned}
 use Rattle.nl_core_clean.specs.declared.cleaning.Cleaned.TheVariants.{Done, Nothing, Lost, Fault}
 use Rattle.nl_core_callbacks.specs.Handled.{nameless_body}
 use Rattle.nl_flight.specs.Flight.{carried}
-use Rattle.nl_spec_holders.specs.Holding.{MarkedTo}
-use Rattle.nl_spec_holders.specs.Laws.{Keeps}
-use Rattle.nl_iface.specs.Calls.{Leaves, NoWriteFailed, StoresMap, StoresPages, stored}
+use Rattle.nl_spec_holders.specs.Holding.{HandledUpTo}
+use Rattle.nl_spec_holders.specs.Laws.{PreservesHolding}
+use Rattle.nl_iface.specs.Calls.{CrashStatesHave, NoWriteFailed, StoresMap, StoresPages, stored}
 use Rattle.nl_iface.specs.Device.{IsVolumeShape}
 use Rattle.nl_iface.specs.Names.{Names}
 use Rattle.nl_iface.specs.Space.{CanLand, SameSegment, Space}
@@ -21,11 +21,11 @@ use Rattle.nl_meta.specs.Consistent.{PageOfStamp}
 use Rattle.nl_meta.specs.Nodes.{graph_of}
 use Rattle.nl_meta.proofs.Lists.{none_some}
 use Rattle.nl_meta_running.specs.Running.{running_on}
-use Rattle.nl_journal_commit.specs.Standing.{StandsOn}
+use Rattle.nl_journal_commit.specs.Standing.{PreservesGraph}
 use Rattle.nl_journal_commit.proofs.Paid.{paid_same}
 use Rattle.nl_journal_commit.proofs.Standing.{addresses_stand}
 use Rattle.nl_spec_commits.specs.DeviceLaws.{LeavesHolding}
-use Rattle.nl_spec_commits.specs.SettlingLaws.{IsTold as IsHeldTold}
+use Rattle.nl_spec_commits.specs.SettlingLaws.{JournalIsObservable as IsHeldTold}
 use Rattle.nl_spec_commits.specs.TreeLaws.{OpensFrom}
 use Rattle.nl_spec_commits.specs.Trees.{Prefix, Trees}
 use Rattle.nl_tree.specs.Tree.{Tree}
@@ -33,8 +33,8 @@ use Rattle.nl_spec_commits.proofs.DeviceTrees.{addresses_go, holding_opens}
 use Rattle.nl_spec_commits.proofs.Firm.{stored_keeps_firm}
 use Rattle.nl_spec_commits.proofs.Steps.{cleaning_keeps_held}
 use Rattle.nl_core.specs.Core.{HasSpace, IsCore, IsPhysical, begun_of, names_of, running_of}
-use Rattle.nl_core.specs.Goes.{Goes, GoesTo, RunsOnAs}
-use Rattle.nl_core.specs.Trees.{CoreRuns, CoreStands, IsTold}
+use Rattle.nl_core.specs.Goes.{PreservesVolume, PreservesTrees, PreservesTree}
+use Rattle.nl_core.specs.Trees.{CoreRepresentsTree, CoreRepresents, CoreIsObservable}
 use Rattle.nl_core.specs.Writing.{stopped_on}
 use Rattle.nl_core.specs.declared.state.Core.{Core}
 use Rattle.nl_core.proofs.Running.{goes_as, runs_on, with_none}
@@ -73,13 +73,13 @@ module _ {D : Type 0} (g : Ghosts D) (v w : Core D) (others : w ≡ record v { d
   abbrev pub now : Core D
   now = record v { device = w.device; stopped = w.stopped }
 
-  stands : StandsOn g v.device v.meta w.device v.journal v.meta
+  stands : PreservesGraph g v.device v.meta w.device v.journal v.meta
   stands = addresses_stand g v.device w.device v.journal v.meta volume core.journaled k.virtual
 
   not_failed : w.stopped ≡ 0 → NoWriteFailed g v.device w.device
   not_failed = none_failed_on g v w stopped reads fails
 
-  marked : MarkedTo (names_of g w) (begun_of v + 1)
+  marked : HandledUpTo (names_of g w) (begun_of v + 1)
   marked c n has at = ⊎_elim
       (λ old. core.marked c n old (sym (k.pages.pending c old).1 ∙ at))
       (λ new. absurd (none_some n (sym new.0 ∙ at))) (k.pages.posted c has)
@@ -127,7 +127,7 @@ module _ {D : Type 0} (g : Ghosts D) (v w : Core D) (others : w ≡ record v { d
   })
 
   -- what a stop leaves
-  leaves_holding : (page_of_stamp : ℕ → Option PageOfStamp) (t : Trees) → CoreStands g v page_of_stamp t → IsTold g w → (c : Stored) → LeavesHeld (g.shape v.device) (names_of g v) (g.bytes v.device) (stored g v.device) c
+  leaves_holding : (page_of_stamp : ℕ → Option PageOfStamp) (t : Trees) → CoreRepresents g v page_of_stamp t → CoreIsObservable g w → (c : Stored) → LeavesHeld (g.shape v.device) (names_of g v) (g.bytes v.device) (stored g v.device) c
       → LeavesHolding g v.device page_of_stamp c
   leaves_holding page_of_stamp t at told c left =
       let told_v = told_before told in
@@ -136,30 +136,30 @@ module _ {D : Type 0} (g : Ghosts D) (v w : Core D) (others : w ≡ record v { d
         agree = left.stored.agree ((core.writes writes).firm told_v).agree;
         moved = left.moved;
         contents = left.contents;
-        keeps = λ x is. subst (λ (n : Names). Keeps (record x { names = n }) (record x { names = left.moved })) (sym is) (left.carries.holders x);
+        keeps = λ x is. subst (λ (n : Names). PreservesHolding (record x { names = n }) (record x { names = left.moved })) (sym is) (left.carries.holders x);
         shows = λ q page is.
             let old = left.carries.was_live q page is in
             at.runs.shows old.0 page old.1 ∙ ap (λ bytes. Some (record { tag = page.tag; bytes = bytes })) (sym old.2);
         pages = left.pages;
       }
     where
-      told_before : IsTold g w → IsHeldTold g v.journal v.meta
+      told_before : CoreIsObservable g w → IsHeldTold g v.journal v.meta
       told_before told = (told.tells, subst (λ (x : Core D). HasNumber x.journal (length x.meta.frozen.addresses)) others told.numbers)
 
-  told_held : IsTold g w → HasNumber v.journal (length v.meta.frozen.addresses)
+  told_held : CoreIsObservable g w → HasNumber v.journal (length v.meta.frozen.addresses)
   told_held told = subst (λ (x : Core D). HasNumber x.journal (length x.meta.frozen.addresses)) others told.numbers
 
-  runs_now : g.tells → (page_of_stamp : ℕ → Option PageOfStamp) (tree : Tree) → CoreRuns g v page_of_stamp tree → CoreRuns g now page_of_stamp tree
+  runs_now : g.tells → (page_of_stamp : ℕ → Option PageOfStamp) (tree : Tree) → CoreRepresentsTree g v page_of_stamp tree → CoreRepresentsTree g now page_of_stamp tree
   runs_now tells page_of_stamp tree at =
       (runs_on g v now page_of_stamp tree at k.virtual.same_shape stands.needed
       (record { live = λ q page is. let old = k.pages.was_live q page is in (old.0, old.1, old.2 tells); stamps = let same = k.next_stamp in omega (arith, same) }))
 
-  goes_to : IsTold g w → (page_of_stamp : ℕ → Option PageOfStamp) (t : Trees) → CoreStands g v page_of_stamp t → GoesTo g v w page_of_stamp t
-  goes_to told page_of_stamp t at = subst (λ (x : Core D). GoesTo g v x page_of_stamp t) (sym others)
+  goes_to : CoreIsObservable g w → (page_of_stamp : ℕ → Option PageOfStamp) (t : Trees) → CoreRepresents g v page_of_stamp t → PreservesTrees g v w page_of_stamp t
+  goes_to told page_of_stamp t at = subst (λ (x : Core D). PreservesTrees g v x page_of_stamp t) (sym others)
       (goes_as g v now page_of_stamp t (with_none g now page_of_stamp t.running (runs_now told.tells page_of_stamp t.running at.runs))
       (addresses_go g v.device w.device v.journal v.meta v.count page_of_stamp t volume told.tells (told_held told) core.journaled k.virtual at.stands) at.committed)
 
-  leaves_to : IsTold g w → (page_of_stamp : ℕ → Option PageOfStamp) (t : Trees) (y : Prefix) → y.0 ≡ w.committed → CoreStands g v page_of_stamp t → Leaves g (OpensFrom (g.shape v.device) v.count w.moment t y) v.device w.device
+  leaves_to : CoreIsObservable g w → (page_of_stamp : ℕ → Option PageOfStamp) (t : Trees) (y : Prefix) → y.0 ≡ w.committed → CoreRepresents g v page_of_stamp t → CrashStatesHave g (OpensFrom (g.shape v.device) v.count w.moment t y) v.device w.device
   leaves_to told page_of_stamp t y is at =
       let l = k.left told.tells in
       record {
@@ -179,7 +179,7 @@ module _ {D : Type 0} (g : Ghosts D) (v w : Core D) (others : w ≡ record v { d
             (l.each m c left);
       }
 
-  pub carried_goes : Goes g 0 v w
+  pub carried_goes : PreservesVolume g 0 v w
   carried_goes = record {
     same_shape = k.virtual.same_shape;
     count = ap (λ (z : Core D). z.count) others;
@@ -196,7 +196,7 @@ module _ {D : Type 0} (g : Ghosts D) (v w : Core D) (others : w ≡ record v { d
       at_most = let n = k.next_stamp in omega (arith, n);
       paid = λ low less. let n = k.next_stamp in let c = k.clock in let f = fails in omega (arith, n, c, f);
     };
-    runs = λ tells page_of_stamp tree at. subst (λ (x : Core D). RunsOnAs g x page_of_stamp tree) (sym others) (with_none g now page_of_stamp tree (runs_now tells page_of_stamp tree at));
+    runs = λ tells page_of_stamp tree at. subst (λ (x : Core D). PreservesTree g x page_of_stamp tree) (sym others) (with_none g now page_of_stamp tree (runs_now tells page_of_stamp tree at));
     trees = goes_to;
     left = leaves_to;
   }

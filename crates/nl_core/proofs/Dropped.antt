@@ -14,7 +14,7 @@ use Rattle.nl_spec_holders.proofs.FreeLists.{OldDiffer, frees-from_lists, kept_n
 use Rattle.nl_spec_holders.proofs.HoldingSteps as steps
 use Rattle.nl_spec_holders.proofs.Words.{Frees, Holds, from_words, to_words}
 use Rattle.nl_spec_holders.specs.Holding.{Holding, KeepsCommitted}
-use Rattle.nl_spec_holders.specs.Laws.{Keeps, OldNamesDiffer}
+use Rattle.nl_spec_holders.specs.Laws.{PreservesHolding, OldNamesDiffer}
 use Rattle.nl_spec_holders.specs.Lists.{ListLoses}
 use Rattle.nl_iface.proofs.Stops.{keeps_leave}
 use Rattle.nl_iface.specs.Calls.{StoresPages}
@@ -39,8 +39,8 @@ use Rattle.nl_spec_commits.specs.TreeLaws.{OpensFrom}
 use Rattle.nl_spec_commits.specs.Trees.{Trees}
 use Rattle.nl_tree.specs.Tree.{Tree}
 use Rattle.nl_core.specs.Core.{HasSpace, IsCore, IsPhysical, names_of, running_of}
-use Rattle.nl_core.specs.Goes.{Goes, GoesTo, Stops}
-use Rattle.nl_core.specs.Trees.{CoreRuns, CoreStands, IsTold}
+use Rattle.nl_core.specs.Goes.{PreservesVolume, PreservesTrees, TurnsReadOnly}
+use Rattle.nl_core.specs.Trees.{CoreRepresentsTree, CoreRepresents, CoreIsObservable}
 use Rattle.nl_core.specs.Dropping.{FreesLine, pointers_of}
 use Rattle.nl_core.specs.declared.state.Core.{Core}
 use Rattle.nl_core.proofs.Lines.{after, before, carried_alike, carried_own, carried_with, held, in_flight, kept_without, loses_page, none_is_flight}
@@ -142,12 +142,12 @@ module _ {D : Type 0} (g : Ghosts D) (v : Core D) (d : D) (worker : ℕ) (worker
   running : running_holders g d v.meta ≡ running_holders g v.device v.meta
   running = same_running g v dropped same_shape volume needed
 
-  keeps : (h : Holding) → h.names ≡ names_of g v → h.flight ≡ carried v.flight → Keeps h (record h { names = g.names d; flight = carried later })
+  keeps : (h : Holding) → h.names ≡ names_of g v → h.flight ≡ carried v.flight → PreservesHolding h (record h { names = g.names d; flight = carried later })
   keeps h names flight =
       let old = old_differ_from h.names.pairs (subst OldNamesDiffer (sym names) differ) in
       let all = subst (λ (n : Names). FreesEach (pointers_of (of_worker v.flight worker)) n (g.names d)) (sym names) b.freed in
       let is = flight ∙ before_is in
-      subst (λ (ys : List (Tag × Pointer)). Keeps h (record h { names = g.names d; flight = ys })) after_is
+      subst (λ (ys : List (Tag × Pointer)). PreservesHolding h (record h { names = g.names d; flight = ys })) after_is
       (record {
         holds = λ f. from_words (all_held v.flight worker known own h (g.names d) old is all (to_words f));
         committed = λ f k. all_safe v.flight worker known own h (g.names d) old is all (to_words f) k;
@@ -155,7 +155,7 @@ module _ {D : Type 0} (g : Ghosts D) (v : Core D) (d : D) (worker : ℕ) (worker
 
   dropped_held : IsHeldVolume g d v.journal v.meta (carried later) v.freeing.items
   dropped_held = step_keeps_held g v.device d v.journal v.meta v.meta (carried v.flight) (carried later) v.freeing.items v.freeing.items volume core.journaled core.held b.kept.virtual refl
-      (λ h number. subst (λ (r : List (Tag × Pointer)). Keeps (holding_with g v.device v.meta (carried v.flight) v.freeing.items h) (record h { names = g.names d; running = r; flight = carried later; freeing = v.freeing.items }))
+      (λ h number. subst (λ (r : List (Tag × Pointer)). PreservesHolding (holding_with g v.device v.meta (carried v.flight) v.freeing.items h) (record h { names = g.names d; running = r; flight = carried later; freeing = v.freeing.items }))
       (sym running) (keeps (holding_with g v.device v.meta (carried v.flight) v.freeing.items h) refl refl))
 
   fewer_live : (g.names d).space.live + length (carried v.flight) ≡ (names_of g v).space.live + length (carried later)
@@ -186,7 +186,7 @@ module _ {D : Type 0} (g : Ghosts D) (v : Core D) (d : D) (worker : ℕ) (worker
   space : Empties (names_of g v).space (g.names d).space × (CanLand (names_of g v).space → CanLand (g.names d).space)
   space = frees_space (pointers_of (of_worker v.flight worker)) (names_of g v) (g.names d) b.freed
 
-  stops : Stops g v dropped
+  stops : TurnsReadOnly g v dropped
   stops = record {
     stands = λ off. refl;
     none = λ none. same_below_end (g.write_faults v.device) (g.write_faults d) (core.writes none).counts b.kept.write_faults;
@@ -236,7 +236,7 @@ module _ {D : Type 0} (g : Ghosts D) (v : Core D) (d : D) (worker : ℕ) (worker
     };
   }
 
-  was_told : IsTold g dropped → IsTold g v
+  was_told : CoreIsObservable g dropped → CoreIsObservable g v
   was_told told = record {
     tells = told.tells;
     numbers = told.numbers;
@@ -244,16 +244,16 @@ module _ {D : Type 0} (g : Ghosts D) (v : Core D) (d : D) (worker : ℕ) (worker
     moments = subst (λ n. n < 9223372036854775808) b.kept.clock told.moments;
   }
 
-  runs_to : g.tells → (page_of_stamp : ℕ → Option PageOfStamp) (tree : Tree) → CoreRuns g v page_of_stamp tree → CoreRuns g dropped page_of_stamp tree
+  runs_to : g.tells → (page_of_stamp : ℕ → Option PageOfStamp) (tree : Tree) → CoreRepresentsTree g v page_of_stamp tree → CoreRepresentsTree g dropped page_of_stamp tree
   runs_to tells page_of_stamp tree at =
       (runs_on g v dropped page_of_stamp tree at same_shape needed
       (record { live = λ q page is. (q, fewer.live q page is, b.kept.bytes tells q); stamps = let same = b.kept.next_stamp in omega (arith, same) }))
 
-  goes_to : IsTold g dropped → (page_of_stamp : ℕ → Option PageOfStamp) (t : Trees) → CoreStands g v page_of_stamp t → GoesTo g v dropped page_of_stamp t
+  goes_to : CoreIsObservable g dropped → (page_of_stamp : ℕ → Option PageOfStamp) (t : Trees) → CoreRepresents g v page_of_stamp t → PreservesTrees g v dropped page_of_stamp t
   goes_to told page_of_stamp t at = goes_as g v dropped page_of_stamp t (with_none g dropped page_of_stamp t.running (runs_to told.tells page_of_stamp t.running at.runs))
       (addresses_go g v.device d v.journal v.meta v.count page_of_stamp t volume told.tells told.numbers core.journaled b.kept.virtual at.stands) at.committed
 
-  pub dropped_goes : Goes g 0 v dropped
+  pub dropped_goes : PreservesVolume g 0 v dropped
   dropped_goes = record {
     same_shape = same_shape;
     count = refl;

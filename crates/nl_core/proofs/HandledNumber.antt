@@ -4,10 +4,10 @@ use Rattle.std.specs.Prelude.{IfNone, IfSome}
 use Rattle.std.proofs.lemmas.Bool.{both_ways}
 use Rattle.nl_tree.specs.declared.turn.DutyAnswer.{DutyAnswer}
 use Rattle.nl_tree.specs.declared.turn.DutyAnswer.TheVariants as duty
-use Rattle.nl_core_callbacks.specs.Handled.{MarksSome}
+use Rattle.nl_core_callbacks.specs.Handled.{MarksSomeHandled}
 use Rattle.nl_core_callbacks.specs.declared.draining.Drained.{Drained}
 use Rattle.nl_core_callbacks.specs.declared.draining.Drained.TheVariants as drained
-use Rattle.nl_iface.specs.Moves.{IsUnhandled, Marks, first_of}
+use Rattle.nl_iface.specs.Moves.{IsUnhandled, MarksHandled, first_handled}
 use Rattle.nl_iface.specs.Names.{Has, Names}
 use Rattle.nl_iface.specs.Rounds.{Empties}
 use Rattle.nl_iface.specs.Space.{Space}
@@ -15,27 +15,27 @@ use Rattle.nl_iface.specs.declared.Callback.{Callback}
 use Rattle.nl_iface.specs.declared.counts.Counts.{Ghosts}
 use Rattle.nl_iface.proofs.RoundSteps.{empties_laws}
 use Rattle.nl_meta.specs.Pages.{Pages, besides_0, has_room, is_dirty, most}
-use Rattle.nl_meta_running.specs.Reading.{Reads}
+use Rattle.nl_meta_running.specs.Reading.{ReadsExplainStop}
 use Rattle.nl_core_callbacks.specs.Blocked.{drained_stop}
 use Rattle.nl_meta.proofs.Lists.{none_some}
 use Rattle.nl_core.specs.Calls.{CommitsAll}
 use Rattle.nl_core.specs.Core.{names_of}
-use Rattle.nl_core.specs.Handling.{Handles, HandlesNumber, HandlesWithRoom, IsPending, TriesCallback, TriesNumber, duty_of}
+use Rattle.nl_core.specs.Handling.{HandlesCallback, HandlesNumber, HandlesWithRoom, CallbackIsPending, TriesCallback, TriesNumber, duty_of}
 use Rattle.nl_core.specs.declared.state.Core.{Core}
 
 -- ---- callbacks that are unhandled were
 
-unhandled_before : (mark : ℕ) (s t : Names) → MarksSome mark s t → (c : Callback) → Has t.pending c → t.handled c.number ≡ None → Has s.pending c × (s.handled c.number ≡ None)
+unhandled_before : (mark : ℕ) (s t : Names) → MarksSomeHandled mark s t → (c : Callback) → Has t.pending c → t.handled c.number ≡ None → Has s.pending c × (s.handled c.number ≡ None)
 unhandled_before mark s t m c has none = (
   subst (λ (cs : List Callback). Has cs c) m.pending has,
   ⊎_elim (λ same. sym same ∙ none) (λ new. absurd (none_some mark (sym none ∙ new.1))) (m.handled c.number),
 )
 
-marked_first : (o : Option ℕ) (mark : ℕ) → first_of o mark ≡ None → ⊥
+marked_first : (o : Option ℕ) (mark : ℕ) → first_handled o mark ≡ None → ⊥
 marked_first None mark is = none_some mark (sym is)
 marked_first (Some n) mark is = none_some n (sym is)
 
-marked_here : (c : Callback) (mark number : ℕ) (s t : Names) → c.number ≡ number → Marks c mark s t → IsUnhandled t number → ⊥
+marked_here : (c : Callback) (mark number : ℕ) (s t : Names) → c.number ≡ number → MarksHandled c mark s t → IsUnhandled t number → ⊥
 marked_here c mark number s t is m u = marked_first (s.handled c.number) mark (sym m.here ∙ ap t.handled is ∙ u.3)
 
 -- where no page is dirty, any page can be made dirty
@@ -64,7 +64,7 @@ module _ {D : Type 0} (g : Ghosts D) (v w : Core D) (mark number : ℕ) (answer 
 
   pub handled_none : answer ≡ None → HandlesNumber g number v w
   handled_none is =
-      let k = subst (λ (o : Option Drained). IfNone o ((IsPending (names_of g v) number → ⊥) × (w ≡ v))) is b.none in
+      let k = subst (λ (o : Option Drained). IfNone o ((CallbackIsPending (names_of g v) number → ⊥) × (w ≡ v))) is b.none in
       handles_number (λ u. k.0 (u.0, subst (λ (x : Core D). Has (names_of g x).pending u.0) k.1 u.1, u.2))
 
   -- where no page is dirty, there is room
@@ -75,14 +75,14 @@ module _ {D : Type 0} (g : Ghosts D) (v w : Core D) (mark number : ℕ) (answer 
       let full = (k.3.no_room refl).full.2 in
       full_not _ w.meta none full
 
-  pub pending_some : (d : Drained) → answer ≡ Some d → IsPending (names_of g v) number
+  pub pending_some : (d : Drained) → answer ≡ Some d → CallbackIsPending (names_of g v) number
   pending_some d is =
       let k = subst (λ (o : Option Drained). IfSome o (λ d. (c : Callback) × Has (names_of g v).pending c × (c.number ≡ number) × TriesCallback g mark v w c d)) is b.some in
       (k.0, k.1, k.2)
 
   pub lost_other : (wanted found : ℕ) → answer ≡ Some (drained.Lost wanted found) → (found ≡ wanted → ⊥) × (g.tells → ⊥)
   lost_other wanted found is =
-      let r = subst (λ (o : Option Drained). Reads g v.device w.device (option_and_then drained_stop o)) is b.reads in
+      let r = subst (λ (o : Option Drained). ReadsExplainStop g v.device w.device (option_and_then drained_stop o)) is b.reads in
       (r.2, r.3)
 
 -- ---- after a commit
@@ -112,7 +112,7 @@ fault_only (Some (drained.Lost w f)) is = absurd (let no : ⊥ = cc in no)
 
 -- ---- a try before room is made
 
-module _ {D : Type 0} (g : Ghosts D) (v u w : Core D) (mark number : ℕ) (answer : Option Drained) (b : TriesNumber g mark number v u answer) (pending : IsPending (names_of g v) number) where
+module _ {D : Type 0} (g : Ghosts D) (v u w : Core D) (mark number : ℕ) (answer : Option Drained) (b : TriesNumber g mark number v u answer) (pending : CallbackIsPending (names_of g v) number) where
   number_then : HandlesNumber g number u w → HandlesNumber g number v w
   number_then h = record {
     handled = h.handled;
@@ -121,7 +121,7 @@ module _ {D : Type 0} (g : Ghosts D) (v u w : Core D) (mark number : ℕ) (answe
     space = λ still. subst (λ (s : Space). Empties s (names_of g w).space) b.handles.marks.space (h.space still);
   }
 
-  pub handles_then : (d : DutyAnswer) → HandlesWithRoom g number u w d → Handles g number v w d
+  pub handles_then : (d : DutyAnswer) → HandlesWithRoom g number u w d → HandlesCallback g number v w d
   handles_then duty.Did h = (pending, number_then h)
   handles_then duty.Nothing h = absurd h
   handles_then duty.Fault h = pending

@@ -7,7 +7,7 @@ use Rattle.std.proofs.lemmas.List.Sums.{sum_by-set}
 use Rattle.std.proofs.lemmas.List.Concat.{flat_map-append, flat_map-cons}
 use Rattle.nl_field.specs.declared.pointer.Pointer.{Pointer}
 use Rattle.nl_field.specs.declared.pointer.Tag.{Tag}
-use Rattle.nl_flight.specs.Flight.{HasPlace, InFlight, IsFlight, begun, carried, extra, of_worker, with_line}
+use Rattle.nl_flight.specs.Flight.{HasFlightRoom, InFlight, IsFlight, begun, carried, extra, of_worker, with_line}
 use Rattle.nl_flight.specs.declared.page.FlightPage.{FlightPage}
 use Rattle.nl_iface.specs.Holders.{tagged}
 use Rattle.nl_iface.specs.Names.{Has}
@@ -122,7 +122,7 @@ module _ (flight : List InFlight) (worker : ℕ) (is : IsFlight flight) (worker_
   sum_with z = sum_by-set extra flight worker z (begun 0) in_flight
 
   -- a line with a page more, where it has a place
-  pub more_is_flight : (z : InFlight) → 0 < z.line → length z.pages ≤ length (of_worker flight worker).pages + 1 → HasPlace flight worker → IsFlight (with_line flight worker z)
+  pub more_is_flight : (z : InFlight) → 0 < z.line → length z.pages ≤ length (of_worker flight worker).pages + 1 → HasFlightRoom flight worker → IsFlight (with_line flight worker z)
   more_is_flight z some more place = record {
     eight = length-set flight worker z ∙ is.eight;
     places = ⊎_elim (λ few. let sum = sum_with z in let most = is.places in omega (arith, few, sum, most, more)) (λ less. let sum = sum_with z in omega (arith, less, sum, more)) place;
@@ -137,7 +137,7 @@ module _ (flight : List InFlight) (worker : ℕ) (is : IsFlight flight) (worker_
     idle = idle_with (begun 0) (λ none. (refl, refl));
   }
 
-  pub page_is_flight : (line : ℕ) (tag : Tag) (at : Pointer) → 0 < line → HasPlace flight worker → IsFlight (with_page flight worker line tag at)
+  pub page_is_flight : (line : ℕ) (tag : Tag) (at : Pointer) → 0 < line → HasFlightRoom flight worker → IsFlight (with_page flight worker line tag at)
   page_is_flight line tag at some place = by (cases_eq (of_worker flight worker).line 0)
     where
       page : FlightPage

@@ -10,7 +10,7 @@ use Rattle.nl_field.specs.declared.answers.Named.TheVariants as named
 use Rattle.nl_field.specs.declared.shape.Shape.{Shape}
 use Rattle.nl_iface.proofs.RoundSteps.{rounds_end}
 use Rattle.nl_iface.specs.Names.{IsNames, Names}
-use Rattle.nl_iface.specs.Rounds.{Cleans, Gains, HasFreed, IsRound, Moves}
+use Rattle.nl_iface.specs.Rounds.{Cleans, GainsByPass, HasFreed, IsReclaimPass, MovesSomePages}
 use Rattle.nl_iface.specs.Space.{Erased, IsSpace, Space}
 
 -- so many pages within reach at most, while no block is Free beyond those that are kept
@@ -49,7 +49,7 @@ blocks_same s t same = record {
   reach = let e = ap (λ (x : Space). x.reach) same in omega (arith, e);
 }
 
-moves_keep : (s t : Space) → Moves s t → KeepsBlocks s t
+moves_keep : (s t : Space) → MovesSomePages s t → KeepsBlocks s t
 moves_keep s t m = record { block = m.same.block; bad = m.bad; keep = let kept = m.same.kept in let bad = m.bad in omega (arith, kept, bad); reach = m.reach }
 
 erased_keeps : (s t : Space) → Erased s t → KeepsBlocks s t
@@ -59,7 +59,7 @@ cleans_keep : (s t : Space) → Cleans s t → KeepsBlocks s t
 cleans_keep s t (inl did) = blocks_then s did.0 t (⊎_elim (λ same. blocks_same s did.0 same) (λ moves. moves_keep s did.0 moves) did.1) (erased_keeps did.0 t did.2)
 cleans_keep s t (inr none) = blocks_same s t none.2
 
-pub round_keeps : (s t : Space) → IsRound s t → KeepsBlocks s t
+pub round_keeps : (s t : Space) → IsReclaimPass s t → KeepsBlocks s t
 round_keeps s t r =
     let e = r.empties in
     blocks_then s r.emptied t
@@ -80,7 +80,7 @@ no_freed s is some none freed =
 most_same : (s t : Space) → KeepsBlocks s t → most_reach t ≡ most_reach s
 most_same s t k = ap (λ n. (n + 2) * t.block) k.keep ∙ ap (λ n. (s.keep + 2) * n) k.block
 
-pub nearer : (s t : Space) → IsSpace s → IsSpace t → KeepsBlocks s t → 1 ≤ s.block → s.room ≡ 0 → t.room ≡ 0 → t.victim ≡ 0 → t.waiting ≤ 1 → Gains s t → rounds_left t < rounds_left s
+pub nearer : (s t : Space) → IsSpace s → IsSpace t → KeepsBlocks s t → 1 ≤ s.block → s.room ≡ 0 → t.room ≡ 0 → t.victim ≡ 0 → t.waiting ≤ 1 → GainsByPass s t → rounds_left t < rounds_left s
 nearer s t is_s is_t k some none_s none_t victim waiting gains =
     let same = most_same s t k in
     let reach = k.reach in

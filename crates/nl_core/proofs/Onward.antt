@@ -5,16 +5,16 @@ use Rattle.nl_field.specs.CrashStates.{Earlier, Rose, saturated, top}
 use Rattle.nl_field.specs.Members.{Has}
 use Rattle.nl_field.specs.declared.shape.Shape.{Shape}
 use Rattle.nl_tree.specs.Tree.{Tree}
-use Rattle.nl_iface.specs.Calls.{Leaves}
+use Rattle.nl_iface.specs.Calls.{CrashStatesHave}
 use Rattle.nl_iface.specs.declared.counts.Counts.{Ghosts}
 use Rattle.nl_meta.specs.Consistent.{PageOfStamp}
 use Rattle.nl_journal_commit.proofs.Paid.{has_number, paid_then}
 use Rattle.nl_spec_commits.specs.TreeLaws.{OpensFrom}
-use Rattle.nl_spec_commits.specs.Trees.{OpensAs, Prefix, Trees, prefixes}
-use Rattle.nl_core.specs.Calls.{HasCause}
+use Rattle.nl_spec_commits.specs.Trees.{StoredOpensAs, Prefix, Trees, prefixes}
+use Rattle.nl_core.specs.Calls.{FailureIsCounted}
 use Rattle.nl_core.specs.Core.{IsCore, begun_of}
-use Rattle.nl_core.specs.Goes.{Goes, GoesTo, PaidSince, RunsOnAs, Stops}
-use Rattle.nl_core.specs.Trees.{CoreRuns, CoreStands, IsTold}
+use Rattle.nl_core.specs.Goes.{PreservesVolume, PreservesTrees, PaidSince, PreservesTree, TurnsReadOnly}
+use Rattle.nl_core.specs.Trees.{CoreRepresentsTree, CoreRepresents, CoreIsObservable}
 use Rattle.nl_core.specs.declared.state.Core.{Core}
 use Rattle.nl_core.proofs.Running.{with_none}
 
@@ -25,8 +25,8 @@ not_rose x y none = ⊎_elim (λ low. low) (λ high. absurd (none high)) (cases_
 none_rose : (x y z : ℕ) → y < saturated (x + 1) → z < saturated (y + 1) → Rose x z → ⊥
 none_rose x y z one two rose = omega (arith, one, two, rose)
 
-module _ {D : Type 0} (g : Ghosts D) (u v w : Core D) (m n : ℕ) (a : Goes g m u v) (b : Goes g n v w) where
-  stops_then : Stops g u w
+module _ {D : Type 0} (g : Ghosts D) (u v w : Core D) (m n : ℕ) (a : PreservesVolume g m u v) (b : PreservesVolume g n v w) where
+  stops_then : TurnsReadOnly g u w
   stops_then = record {
     stands = λ off. let one = a.stops.stands off in b.stops.stands (λ z. off (sym one ∙ z)) ∙ one;
     none = λ none rose.
@@ -63,7 +63,7 @@ module _ {D : Type 0} (g : Ghosts D) (u v w : Core D) (m n : ℕ) (a : Goes g m 
       let from = second.1 in
       inr (λ low. ⊎_elim (λ below. let high = second.0 below in omega (arith, clock, high)) (λ end. omega (arith, low, end, from)) (cases_lt (g.clock v.device) top), omega (arith, clock, from))
 
-  told_first : IsTold g w → IsTold g v
+  told_first : CoreIsObservable g w → CoreIsObservable g v
   told_first told = record {
     tells = told.tells;
     numbers = let one = b.numbers in let all = told.numbers in omega (arith, one, all);
@@ -71,20 +71,20 @@ module _ {D : Type 0} (g : Ghosts D) (u v w : Core D) (m n : ℕ) (a : Goes g m 
     moments = let one = b.clock in let all = told.moments in omega (arith, one, all);
   }
 
-  runs_then : g.tells → (page_of_stamp : ℕ → Option PageOfStamp) (tree : Tree) → CoreRuns g u page_of_stamp tree → RunsOnAs g w page_of_stamp tree
+  runs_then : g.tells → (page_of_stamp : ℕ → Option PageOfStamp) (tree : Tree) → CoreRepresentsTree g u page_of_stamp tree → PreservesTree g w page_of_stamp tree
   runs_then tells page_of_stamp tree at =
       let k = a.runs tells page_of_stamp tree at in
       let l = b.runs tells k.pages tree k.runs in
       record { pages = l.pages; extends = λ stamp page has. l.extends stamp page (k.extends stamp page has); runs = l.runs }
 
   -- a tree of the volume between them is one of that before
-  one_of : (page_of_stamp : ℕ → Option PageOfStamp) (t : Trees) (k : GoesTo g u v page_of_stamp t) (z : Prefix) → Has (prefixes v.count k.trees) z → Has (prefixes u.count t) z
+  one_of : (page_of_stamp : ℕ → Option PageOfStamp) (t : Trees) (k : PreservesTrees g u v page_of_stamp t) (z : Prefix) → Has (prefixes v.count k.trees) z → Has (prefixes u.count t) z
   one_of page_of_stamp t k z (inl e) = subst (λ (x : Prefix). Has (prefixes u.count t) x) e k.committed
   one_of page_of_stamp t k z (inr (inl e)) = subst (λ (x : Prefix). Has (prefixes u.count t) x) e k.frozen
   one_of page_of_stamp t k z (inr (inr (inl e))) = inr (inr (inl ((λ i. (sym a.count i, sym k.running i)) ∙ e)))
   one_of page_of_stamp t k z (inr (inr (inr none))) = absurd none
 
-  trees_then : IsTold g w → (page_of_stamp : ℕ → Option PageOfStamp) (t : Trees) → CoreStands g u page_of_stamp t → GoesTo g u w page_of_stamp t
+  trees_then : CoreIsObservable g w → (page_of_stamp : ℕ → Option PageOfStamp) (t : Trees) → CoreRepresents g u page_of_stamp t → PreservesTrees g u w page_of_stamp t
   trees_then told page_of_stamp t at =
       let k = a.trees (told_first told) page_of_stamp t at in
       let l = b.trees told k.pages k.trees k.stands in
@@ -112,8 +112,8 @@ module _ {D : Type 0} (g : Ghosts D) (u v w : Core D) (m n : ℕ) (a : Goes g m 
       let far = later.0 (omega (arith, few, clock)) in
       absurd (let no : ⊥ = omega (arith, far, high, to) in no)
 
-  left_then : IsTold g w → (page_of_stamp : ℕ → Option PageOfStamp) (t : Trees) (y : Prefix) → y.0 ≡ w.committed → CoreStands g u page_of_stamp t
-      → Leaves g (OpensFrom (g.shape u.device) u.count w.moment t y) u.device w.device
+  left_then : CoreIsObservable g w → (page_of_stamp : ℕ → Option PageOfStamp) (t : Trees) (y : Prefix) → y.0 ≡ w.committed → CoreRepresents g u page_of_stamp t
+      → CrashStatesHave g (OpensFrom (g.shape u.device) u.count w.moment t y) u.device w.device
   left_then told page_of_stamp t y is at =
       let few = told.moments in
       let k = a.trees (told_first told) page_of_stamp t at in
@@ -133,11 +133,11 @@ module _ {D : Type 0} (g : Ghosts D) (u v w : Core D) (m n : ℕ) (a : Goes g m 
             (λ x.
             let one = x.0 in
             let two = x.1 in
-            inr (omega (arith, one, from), two, (x.2.0, one_of page_of_stamp t k x.2.0 x.2.1, subst (λ (h : Shape). OpensAs h (g.stored_of c) x.2.0) a.same_shape x.2.2, x.2.3)))
+            inr (omega (arith, one, from), two, (x.2.0, one_of page_of_stamp t k x.2.0 x.2.1, subst (λ (h : Shape). StoredOpensAs h (g.stored_of c) x.2.0) a.same_shape x.2.2, x.2.3)))
             (second.each i c left);
       }
 
-  pub goes_then : Goes g (m + n) u w
+  pub goes_then : PreservesVolume g (m + n) u w
   goes_then = record {
     same_shape = b.same_shape ∙ a.same_shape;
     count = b.count ∙ a.count;
@@ -165,21 +165,21 @@ module _ {D : Type 0} (g : Ghosts D) (u v w : Core D) (m n : ℕ) (a : Goes g m 
   }
 
 -- a failure of the second of two calls has its cause
-pub cause_then : {D : Type 0} (g : Ghosts D) (second failed : Type 0) (u v w : Core D) (m : ℕ) → Goes g m u v → HasCause g second v w → (failed → second) → HasCause g failed u w
+pub cause_then : {D : Type 0} (g : Ghosts D) (second failed : Type 0) (u v w : Core D) (m : ℕ) → PreservesVolume g m u v → FailureIsCounted g second v w → (failed → second) → FailureIsCounted g failed u w
 cause_then g second failed u v w m a b of f =
     let reads = a.reads in
     let writes = a.writes in
     ⊎_elim (λ rose. inl (omega (arith, rose, reads))) (λ rose. inr (omega (arith, rose, writes))) (b (of f))
 
 -- a failure of the first of two calls has its cause
-pub cause_first : {D : Type 0} (g : Ghosts D) (first failed : Type 0) (u v w : Core D) (n : ℕ) → HasCause g first u v → Goes g n v w → (failed → first) → HasCause g failed u w
+pub cause_first : {D : Type 0} (g : Ghosts D) (first failed : Type 0) (u v w : Core D) (n : ℕ) → FailureIsCounted g first u v → PreservesVolume g n v w → (failed → first) → FailureIsCounted g failed u w
 cause_first g first failed u v w n a b of f =
     let reads = b.reads in
     let writes = b.writes in
     ⊎_elim (λ rose. inl (omega (arith, rose, reads))) (λ rose. inr (omega (arith, rose, writes))) (a (of f))
 
 -- more numbers may be taken
-pub goes_more : {D : Type 0} (g : Ghosts D) (m n : ℕ) (u v : Core D) → m ≤ n → Goes g m u v → Goes g n u v
+pub goes_more : {D : Type 0} (g : Ghosts D) (m n : ℕ) (u v : Core D) → m ≤ n → PreservesVolume g m u v → PreservesVolume g n u v
 goes_more g m n u v low a = record {
   same_shape = a.same_shape;
   count = a.count;
@@ -198,7 +198,7 @@ goes_more g m n u v low a = record {
 }
 
 -- no call
-pub goes_none : {D : Type 0} (g : Ghosts D) (v : Core D) → IsCore g v → Goes g 0 v v
+pub goes_none : {D : Type 0} (g : Ghosts D) (v : Core D) → IsCore g v → PreservesVolume g 0 v v
 goes_none g v core = record {
   same_shape = refl;
   count = refl;
@@ -230,11 +230,11 @@ goes_none g v core = record {
 }
 
 -- where the volume became read-only, a write failed
-pub cause_stopped : {D : Type 0} (g : Ghosts D) (failed : Type 0) (u v : Core D) (m : ℕ) → Goes g m u v → u.stopped ≡ 0 → (v.stopped ≡ 0 → ⊥) → HasCause g failed u v
+pub cause_stopped : {D : Type 0} (g : Ghosts D) (failed : Type 0) (u v : Core D) (m : ℕ) → PreservesVolume g m u v → u.stopped ≡ 0 → (v.stopped ≡ 0 → ⊥) → FailureIsCounted g failed u v
 cause_stopped g failed u v m a ran off of = inr (a.stops.some ran off).0
 
 -- the number rises on
-pub paid_on : {D : Type 0} (g : Ghosts D) (clock number : ℕ) (u v : Core D) (m : ℕ) → Goes g m u v → PaidSince g clock number u → PaidSince g clock number v
+pub paid_on : {D : Type 0} (g : Ghosts D) (clock number : ℕ) (u v : Core D) (m : ℕ) → PreservesVolume g m u v → PaidSince g clock number u → PaidSince g clock number v
 paid_on g clock number u v m a was = paid_then clock number (g.clock u.device) u.journal.number (g.clock v.device) v.journal.number a.clock was a.paid
 
 -- the number has a spelling, as long as the clock leaves room

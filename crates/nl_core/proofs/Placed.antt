@@ -10,13 +10,13 @@ use Rattle.nl_field.specs.declared.pointer.Pointer.{Pointer}
 use Rattle.nl_field.specs.declared.pointer.Tag.{Tag}
 use Rattle.nl_field.specs.declared.shape.Shape.{Shape}
 use Rattle.nl_core_callbacks.specs.Handled.{nameless_body}
-use Rattle.nl_flight.specs.Flight.{HasPlace, InFlight, IsFlight, carried}
-use Rattle.nl_spec_holders.specs.Laws.{Keeps}
+use Rattle.nl_flight.specs.Flight.{HasFlightRoom, InFlight, IsFlight, carried}
+use Rattle.nl_spec_holders.specs.Laws.{PreservesHolding}
 use Rattle.nl_spec_holders.specs.Lists.{ListGains}
 use Rattle.nl_iface.specs.Holders.{tagged}
 use Rattle.nl_iface.proofs.Stops.{tried_agree}
 use Rattle.nl_iface.specs.Answers.{IfPlaced, IfRefused, IsPlaced, IsTriedNamed}
-use Rattle.nl_iface.specs.Calls.{Leaves, OnlyReads, Places, PlacesNone, StoresMap, StoresPages, next_named, next_page, stored}
+use Rattle.nl_iface.specs.Calls.{CrashStatesHave, OnlyReads, PlacesNewPage, PlacesNone, StoresMap, StoresPages, next_named, next_page, stored}
 use Rattle.nl_iface.specs.Device.{IsVolumeShape}
 use Rattle.nl_iface.specs.Left.{LeavesTried}
 use Rattle.nl_iface.specs.Names.{Has, IsNames, LivePage, Names, SameTables}
@@ -38,11 +38,11 @@ use Rattle.nl_spec_commits.specs.Standing.{IsFirm, ShowsPages}
 use Rattle.nl_spec_commits.specs.TreeLaws.{OpensFrom}
 use Rattle.nl_spec_commits.specs.Trees.{Prefix, Trees}
 use Rattle.nl_tree.specs.Tree.{Tree}
-use Rattle.nl_core.specs.Calls.{HasCause}
+use Rattle.nl_core.specs.Calls.{FailureIsCounted}
 use Rattle.nl_core.specs.Core.{HasSpace, IsCore, IsPhysical, names_of, running_of}
-use Rattle.nl_core.specs.Goes.{Goes, GoesTo, RunsOnAs}
-use Rattle.nl_core.specs.Programming.{Programs, PutsNone, PutsPage, with_page}
-use Rattle.nl_core.specs.Trees.{CoreRuns, CoreStands, IsTold}
+use Rattle.nl_core.specs.Goes.{PreservesVolume, PreservesTrees, PreservesTree}
+use Rattle.nl_core.specs.Programming.{ProgramsNewName, PutsNone, PutsPage, with_page}
+use Rattle.nl_core.specs.Trees.{CoreRepresentsTree, CoreRepresents, CoreIsObservable}
 use Rattle.nl_core.specs.Writing.{stopped_by, stopped_on}
 use Rattle.nl_core.specs.declared.state.Core.{Core}
 use Rattle.nl_core.proofs.Lines.{gains_put, page_is_flight}
@@ -71,7 +71,7 @@ stays_same s t is = subst (λ (n : Names). Stays s n) (sym is) (record {
   pending = λ c has. (has, refl);
 })
 
-stays : {D : Type 0} (g : Ghosts D) (tag : Tag) (main : List ℕ) (answer : Named) (old new : D) → IfPlaced answer (Places g tag main 0 (g.names old) old new) → ((IsPlaced answer → ⊥) → PlacesNone g answer old new)
+stays : {D : Type 0} (g : Ghosts D) (tag : Tag) (main : List ℕ) (answer : Named) (old new : D) → IfPlaced answer (PlacesNewPage g tag main 0 (g.names old) old new) → ((IsPlaced answer → ⊥) → PlacesNone g answer old new)
     → IfRefused answer (OnlyReads g old new) → Stays (g.names old) (g.names new)
 stays g tag main (named.Placed at) old new p none refused = record {
   segment = p.space.same;
@@ -90,7 +90,7 @@ same_live g named.NotLive old new off none refused = ap (λ (n : Names). n.space
 same_live g named.NoPage old new off none refused = ap (λ (n : Names). n.space.live) refused.names
 same_live g named.Fault old new off none refused = none.fault.live
 
-module _ {D : Type 0} (g : Ghosts D) (v : Core D) (d : D) (flight : List InFlight) (tag : Tag) (main : List ℕ) (answer : Named) (b : Programs g tag main answer v.device d) (core : IsCore g v)
+module _ {D : Type 0} (g : Ghosts D) (v : Core D) (d : D) (flight : List InFlight) (tag : Tag) (main : List ℕ) (answer : Named) (b : ProgramsNewName g tag main answer v.device d) (core : IsCore g v)
     (volume : IsVolumeShape (g.shape v.device)) (writes : v.stopped ≡ 0) where
   abbrev pub programmed : Core D
   programmed = record v { device = d; flight = flight; stopped = stopped_by v.stopped (g.read_faults d) (g.write_faults v.device) (g.write_faults d) }
@@ -155,7 +155,7 @@ module _ {D : Type 0} (g : Ghosts D) (v : Core D) (d : D) (flight : List InFligh
 
   -- ---- what a stop within leaves
 
-  was_told : IsTold g programmed → IsTold g v
+  was_told : CoreIsObservable g programmed → CoreIsObservable g v
   was_told told = record {
     tells = told.tells;
     numbers = told.numbers;
@@ -163,10 +163,10 @@ module _ {D : Type 0} (g : Ghosts D) (v : Core D) (d : D) (flight : List InFligh
     moments = let later = b.counts.ticks.clock in let low = told.moments in omega (arith, later, low);
   }
 
-  firm : IsTold g programmed → IsFirm g v.device
+  firm : CoreIsObservable g programmed → IsFirm g v.device
   firm told = (core.writes writes).firm (told.tells, told.numbers)
 
-  leaves_holding : IsTold g programmed → (page_of_stamp : ℕ → Option PageOfStamp) → ShowsPages (names_of g v) (g.bytes v.device) page_of_stamp → (c : Stored)
+  leaves_holding : CoreIsObservable g programmed → (page_of_stamp : ℕ → Option PageOfStamp) → ShowsPages (names_of g v) (g.bytes v.device) page_of_stamp → (c : Stored)
       → LeavesTried (g.shape v.device) (names_of g v) (g.bytes v.device) (next_named g tag main v.device) (stored g v.device) c → LeavesHolding g v.device page_of_stamp c
   leaves_holding told page_of_stamp shows c x =
       let f = firm told in
@@ -176,13 +176,13 @@ module _ {D : Type 0} (g : Ghosts D) (v : Core D) (d : D) (flight : List InFligh
             (λ p page is same. absurd (let low = f.pages.named_below p page is in let at : page.stamp ≡ g.next_stamp v.device = same in let off : ⊥ = omega (arith, low, at) in off));
         moved = names_of g v;
         contents = g.bytes v.device;
-        keeps = λ h is. subst (λ (n : Names). Keeps h (record h { names = n })) is (record { holds = λ holds. holds; committed = λ holds kept. kept });
+        keeps = λ h is. subst (λ (n : Names). PreservesHolding h (record h { names = n })) is (record { holds = λ holds. holds; committed = λ holds kept. kept });
         shows = shows;
         pages = x.pages;
       }
 
-  pub programmed_left : (g.tells → StoresMap g v.device) → IsTold g programmed → (page_of_stamp : ℕ → Option PageOfStamp) (t : Trees) (y : Prefix) → y.0 ≡ v.committed → CoreStands g v page_of_stamp t
-      → Leaves g (OpensFrom (g.shape v.device) v.count v.moment t y) v.device d
+  pub programmed_left : (g.tells → StoresMap g v.device) → CoreIsObservable g programmed → (page_of_stamp : ℕ → Option PageOfStamp) (t : Trees) (y : Prefix) → y.0 ≡ v.committed → CoreRepresents g v page_of_stamp t
+      → CrashStatesHave g (OpensFrom (g.shape v.device) v.count v.moment t y) v.device d
   programmed_left map told page_of_stamp t y is at = record {
     later = (b.left told.tells).stops.later;
     each = λ m c left. ⊎_elim inl (λ k. inr (k.0, k.1, opens m (g.stored_of c) (⊎_elim (λ x. x.1) (λ x. x.0) k.2))) ((b.left told.tells).stops.each m c left);
@@ -201,13 +201,13 @@ module _ {D : Type 0} (g : Ghosts D) (v : Core D) (d : D) (flight : List InFligh
   -- ---- how it went on
 
   -- none was placed
-  runs_none : (IsPlaced answer → ⊥) → g.tells → (page_of_stamp : ℕ → Option PageOfStamp) (tree : Tree) → CoreRuns g v page_of_stamp tree → RunsOnAs g programmed page_of_stamp tree
+  runs_none : (IsPlaced answer → ⊥) → g.tells → (page_of_stamp : ℕ → Option PageOfStamp) (tree : Tree) → CoreRepresentsTree g v page_of_stamp tree → PreservesTree g programmed page_of_stamp tree
   runs_none off tells page_of_stamp tree at = with_none g programmed page_of_stamp tree
       (runs_on g v programmed page_of_stamp tree at same_shape needed
       (record { live = λ q page is. let was = sym ((b.none off).tables.live q) ∙ is in (q, was, b.kept.bytes tells q page was); stamps = b.next_stamp.never_falls }))
 
   -- one was: its write sequence number has it
-  module _ (p : Pointer) (places : Places g tag main 0 (names_of g v) v.device d p) (taken : g.next_stamp d ≡ g.next_stamp v.device + 1) where
+  module _ (p : Pointer) (places : PlacesNewPage g tag main 0 (names_of g v) v.device d p) (taken : g.next_stamp d ≡ g.next_stamp v.device + 1) where
     abbrev new_page : PageOfStamp
     new_page = record { tag = tag; bytes = main }
 
@@ -220,7 +220,7 @@ module _ {D : Type 0} (g : Ghosts D) (v : Core D) (d : D) (flight : List InFligh
     beside_new : (page_of_stamp : ℕ → Option PageOfStamp) (stamp : ℕ) → (stamp ≡ g.next_stamp v.device → ⊥) → with_new page_of_stamp stamp ≡ page_of_stamp stamp
     beside_new page_of_stamp stamp off = cond-false (stamp == g.next_stamp v.device) (Some new_page) (page_of_stamp stamp) (ne_eqb stamp (g.next_stamp v.device) off)
 
-    module _ (tells : g.tells) (page_of_stamp : ℕ → Option PageOfStamp) (tree : Tree) (at : CoreRuns g v page_of_stamp tree) where
+    module _ (tells : g.tells) (page_of_stamp : ℕ → Option PageOfStamp) (tree : Tree) (at : CoreRepresentsTree g v page_of_stamp tree) where
       extends_new : Extends page_of_stamp (with_new page_of_stamp)
       extends_new stamp page is = beside_new page_of_stamp stamp (λ same. let low = at.given stamp page is in let off : ⊥ = omega (arith, low, same) in off) ∙ is
 
@@ -245,7 +245,7 @@ module _ {D : Type 0} (g : Ghosts D) (v : Core D) (d : D) (flight : List InFligh
           by (inl here) = let same = eqb-true stamp (g.next_stamp v.device) here in omega (arith, same, taken)
           by (inr far) = let low = at.given stamp page (sym (cond-false (stamp == g.next_stamp v.device) (Some new_page) (page_of_stamp stamp) far) ∙ is) in omega (arith, low, taken)
 
-      runs_new : RunsOnAs g programmed page_of_stamp tree
+      runs_new : PreservesTree g programmed page_of_stamp tree
       runs_new = record {
         pages = with_new page_of_stamp;
         extends = extends_new;
@@ -256,23 +256,23 @@ module _ {D : Type 0} (g : Ghosts D) (v : Core D) (d : D) (flight : List InFligh
         };
       }
 
-  runs_by : g.tells → (page_of_stamp : ℕ → Option PageOfStamp) (tree : Tree) → CoreRuns g v page_of_stamp tree → (a : Named) → answer ≡ a → IfPlaced a (Places g tag main 0 (names_of g v) v.device d) → RunsOnAs g programmed page_of_stamp tree
+  runs_by : g.tells → (page_of_stamp : ℕ → Option PageOfStamp) (tree : Tree) → CoreRepresentsTree g v page_of_stamp tree → (a : Named) → answer ≡ a → IfPlaced a (PlacesNewPage g tag main 0 (names_of g v) v.device d) → PreservesTree g programmed page_of_stamp tree
   runs_by tells page_of_stamp tree at (named.Placed p) is places = runs_new p places (b.next_stamp.taken (subst IsTriedNamed (sym is) tt)) tells page_of_stamp tree at
   runs_by tells page_of_stamp tree at named.NotLive is places = runs_none (λ placed. subst IsPlaced is placed) tells page_of_stamp tree at
   runs_by tells page_of_stamp tree at named.NoPage is places = runs_none (λ placed. subst IsPlaced is placed) tells page_of_stamp tree at
   runs_by tells page_of_stamp tree at named.Fault is places = runs_none (λ placed. subst IsPlaced is placed) tells page_of_stamp tree at
 
-  runs_to : g.tells → (page_of_stamp : ℕ → Option PageOfStamp) (tree : Tree) → CoreRuns g v page_of_stamp tree → RunsOnAs g programmed page_of_stamp tree
+  runs_to : g.tells → (page_of_stamp : ℕ → Option PageOfStamp) (tree : Tree) → CoreRepresentsTree g v page_of_stamp tree → PreservesTree g programmed page_of_stamp tree
   runs_to tells page_of_stamp tree at = runs_by tells page_of_stamp tree at answer refl b.placed
 
-  goes_to : IsTold g programmed → (page_of_stamp : ℕ → Option PageOfStamp) (t : Trees) → CoreStands g v page_of_stamp t → GoesTo g v programmed page_of_stamp t
+  goes_to : CoreIsObservable g programmed → (page_of_stamp : ℕ → Option PageOfStamp) (t : Trees) → CoreRepresents g v page_of_stamp t → PreservesTrees g v programmed page_of_stamp t
   goes_to told page_of_stamp t at =
       let k = runs_to told.tells page_of_stamp t.running at.runs in
       goes_as g v programmed page_of_stamp t k
       (pages_go g d v.journal v.meta v.count page_of_stamp k.pages t k.extends
       (addresses_go g v.device d v.journal v.meta v.count page_of_stamp t volume told.tells told.numbers core.journaled b.kept.virtual at.stands)) at.committed
 
-  pub programmed_goes : (g.tells → StoresMap g v.device) → Goes g 1 v programmed
+  pub programmed_goes : (g.tells → StoresMap g v.device) → PreservesVolume g 1 v programmed
   programmed_goes map = record {
     same_shape = same_shape;
     count = refl;
@@ -293,7 +293,7 @@ module _ {D : Type 0} (g : Ghosts D) (v : Core D) (d : D) (flight : List InFligh
       graph : graph_of (g.shape d) (running_on g d v.meta) ≡ graph_of (g.shape v.device) (running_of g v)
       graph = (addresses_stand g v.device d v.journal v.meta volume core.journaled b.kept.virtual).graph
 
-  pub programmed_cause : HasCause g (answer ≡ named.Fault) v programmed
+  pub programmed_cause : FailureIsCounted g (answer ≡ named.Fault) v programmed
   programmed_cause failed = inr (b.counts.faults.cause failed)
 
 -- ---- both ends of a try
@@ -314,7 +314,7 @@ if_off named.NotLive P none = tt
 if_off named.NoPage P none = tt
 if_off named.Fault P none = tt
 
-module _ {D : Type 0} (g : Ghosts D) (v w : Core D) (tag : Tag) (main : List ℕ) (answer : Named) (b : Programs g tag main answer v.device w.device)
+module _ {D : Type 0} (g : Ghosts D) (v w : Core D) (tag : Tag) (main : List ℕ) (answer : Named) (b : ProgramsNewName g tag main answer v.device w.device)
     (is : w ≡ record v { device = w.device; stopped = stopped_on g (g.write_faults v.device) v w }) (core : IsCore g v) (volume : IsVolumeShape (g.shape v.device)) (writes : v.stopped ≡ 0)
     (map : g.tells → StoresMap g v.device) (stores : g.tells → StoresPages g w.device) where
   -- none was placed
@@ -327,17 +327,17 @@ module _ {D : Type 0} (g : Ghosts D) (v w : Core D) (tag : Tag) (main : List ℕ
         (tables_keep_held g v.device w.device v.journal v.meta (carried v.flight) v.freeing.items volume core.journaled core.held b.kept.virtual (b.none off).tables) core.flight core.named core.stamped
         (let same = same_live g answer v.device w.device off (b.none off) b.refused in omega (arith, same)) formed)
 
-    pub none_goes : Goes g 1 v w
-    none_goes = subst (λ (x : Core D). Goes g 1 v x) (sym is) (programmed_goes g v w.device v.flight tag main answer b core volume writes map)
+    pub none_goes : PreservesVolume g 1 v w
+    none_goes = subst (λ (x : Core D). PreservesVolume g 1 v x) (sym is) (programmed_goes g v w.device v.flight tag main answer b core volume writes map)
 
-    pub none_cause : HasCause g (answer ≡ named.Fault) v w
-    none_cause = subst (λ (x : Core D). HasCause g (answer ≡ named.Fault) v x) (sym is) (programmed_cause g v w.device v.flight tag main answer b core volume writes)
+    pub none_cause : FailureIsCounted g (answer ≡ named.Fault) v w
+    none_cause = subst (λ (x : Core D). FailureIsCounted g (answer ≡ named.Fault) v x) (sym is) (programmed_cause g v w.device v.flight tag main answer b core volume writes)
 
     pub puts_none : PutsNone g answer v w
     puts_none = subst (λ (x : Core D). PutsNone g answer v x) (sym is) (record { none = b.none off; not_live = b.not_live; others = refl; refused = b.refused })
 
   -- one was, and it is in flight
-  module _ (p : Pointer) (placed : answer ≡ named.Placed p) (worker line : ℕ) (known : worker < 8) (some : 0 < line) (place : HasPlace v.flight worker)
+  module _ (p : Pointer) (placed : answer ≡ named.Placed p) (worker line : ℕ) (known : worker < 8) (some : 0 < line) (place : HasFlightRoom v.flight worker)
       (numbers : IsNames (g.shape v.device) (g.next_stamp v.device) (names_of g v)) where
     abbrev pub lines : List InFlight
     lines = with_page v.flight worker line tag p
@@ -348,8 +348,8 @@ module _ {D : Type 0} (g : Ghosts D) (v w : Core D) (tag : Tag) (main : List ℕ
     put_is : put_in ≡ programmed g v w.device lines tag main answer b core volume writes
     put_is = ap (λ (x : Core D). record x { flight = lines }) is
 
-    places : Places g tag main 0 (names_of g v) v.device w.device p
-    places = subst (λ (a : Named). IfPlaced a (Places g tag main 0 (names_of g v) v.device w.device)) placed b.placed
+    places : PlacesNewPage g tag main 0 (names_of g v) v.device w.device p
+    places = subst (λ (a : Named). IfPlaced a (PlacesNewPage g tag main 0 (names_of g v) v.device w.device)) placed b.placed
 
     gains : ListGains tagged (tag, p) (carried v.flight) (carried lines)
     gains = gains_put v.flight worker line tag p core.flight known
@@ -362,8 +362,8 @@ module _ {D : Type 0} (g : Ghosts D) (v w : Core D) (tag : Tag) (main : List ℕ
         (λ x has. ⊎_elim (λ is. subst (λ (y : Tag × Pointer). IsTrue (is_stamp y.1.stamp)) (sym is) (subst (λ n. IsTrue (is_stamp n)) (sym places.stamp) spelled)) (core.stamped x) (gains.only x has))
         (let more = places.space.live in let size = gains.size in omega (arith, more, size)) formed)
 
-    pub put_goes : Goes g 1 v put_in
-    put_goes = subst (λ (x : Core D). Goes g 1 v x) (sym put_is) (programmed_goes g v w.device lines tag main answer b core volume writes map)
+    pub put_goes : PreservesVolume g 1 v put_in
+    put_goes = subst (λ (x : Core D). PreservesVolume g 1 v x) (sym put_is) (programmed_goes g v w.device lines tag main answer b core volume writes map)
 
     pub put_page : PutsPage g worker line tag main v put_in p
     put_page = subst (λ (x : Core D). PutsPage g worker line tag main v x p) (sym put_is) (record {

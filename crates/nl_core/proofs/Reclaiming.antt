@@ -9,7 +9,7 @@ use Rattle.nl_field.specs.declared.answers.Named.TheVariants as named
 use Rattle.nl_field.specs.declared.pointer.Pointer.{Pointer}
 use Rattle.nl_field.specs.declared.pointer.Tag.{Tag}
 use Rattle.nl_core_callbacks.specs.Handled.{nameless, nameless_line}
-use Rattle.nl_flight.specs.Flight.{HasPlace, InFlight, begun, carried, extra, of_worker}
+use Rattle.nl_flight.specs.Flight.{HasFlightRoom, InFlight, begun, carried, extra, of_worker}
 use Rattle.nl_flight.specs.declared.page.FlightPage.{FlightPage}
 use Rattle.nl_iface.specs.Answers.{IfPlaced, IfRefused, IsPlaced}
 use Rattle.nl_iface.specs.Calls.{OnlyReads}
@@ -19,11 +19,11 @@ use Rattle.nl_iface.specs.Space.{Space}
 use Rattle.nl_meta_running.proofs.Holds.{bounds-of}
 use Rattle.nl_iface.specs.declared.counts.Counts.{Ghosts}
 use Rattle.nl_iface.specs.declared.moving_pages.MovingPages.{Ghosts as Moving}
-use Rattle.nl_core.specs.Calls.{HasCause, KeepsLines}
+use Rattle.nl_core.specs.Calls.{FailureIsCounted, KeepsLines}
 use Rattle.nl_core.specs.Core.{IsCore, names_of}
-use Rattle.nl_core.specs.Goes.{Goes}
-use Rattle.nl_core.specs.Programming.{HasLine, PutsInFlight, PutsNone, PutsPage, behind, line_of, with_page}
-use Rattle.nl_core.specs.Rounds.{RoundIsDone}
+use Rattle.nl_core.specs.Goes.{PreservesVolume}
+use Rattle.nl_core.specs.Programming.{HasLineOrNone, PutsInFlight, PutsNone, PutsPage, behind, line_of, with_page}
+use Rattle.nl_core.specs.Rounds.{ReclaimPassIsDone}
 use Rattle.nl_core.specs.declared.state.Core.{Core}
 use Rattle.nl_core.proofs.Lines.{gains_put}
 use Rattle.nl_core.proofs.Nearer.{less_left, nearer, round_keeps, rounds_left, tries_left}
@@ -36,11 +36,11 @@ module _ (old new : List InFlight) (same : map nameless_line new ≡ map nameles
   number_stays : (of_worker new worker).line ≡ (of_worker old worker).line
   number_stays = ap (λ (x : InFlight). x.line) (same_line old new same worker)
 
-  pub has_line_stays : HasLine old worker line → HasLine new worker line
+  pub has_line_stays : HasLineOrNone old worker line → HasLineOrNone new worker line
   has_line_stays (inl none) = inl (number_stays ∙ none)
   has_line_stays (inr is) = inr (number_stays ∙ is)
 
-  pub has_place_stays : HasPlace old worker → HasPlace new worker
+  pub has_place_stays : HasFlightRoom old worker → HasFlightRoom new worker
   has_place_stays place = ⊎_elim
       (λ few. inl (subst (λ n. n < 16) (sym as_many) few))
       (λ less. inr (subst (λ n. n < 2) (sym (sym (extra_bare new) ∙ ap (λ (xs : List InFlight). sum_by extra xs) same ∙ extra_bare old)) less))
@@ -86,18 +86,18 @@ round_cost = 2 ^ 20 + 1
 pub record Tries {D : Type 0} (g : Ghosts D) (worker line : ℕ) (tag : Tag) (main : List ℕ) (start now : Core D) (answer : Named) : Type 0 where
   pub core : IsCore g now
   pub taken : ℕ
-  pub goes : Goes g taken start now
+  pub goes : PreservesVolume g taken start now
   pub paid : taken + round_cost * tries_left answer (names_of g now).space ≤ round_cost * 772
   pub no_room : answer ≡ named.NoPage → (now.stopped ≡ 0) × ((names_of g now).space.room ≡ 0)
   pub not_live : answer ≡ named.NotLive → ⊥
   pub placed : IfPlaced answer (λ at. PutsInFlight g worker line tag main start now)
   pub lines : (IsPlaced answer → ⊥) → KeepsLines start now
-  pub cause : HasCause g (answer ≡ named.Fault) start now
+  pub cause : FailureIsCounted g (answer ≡ named.Fault) start now
 
-module _ {D : Type 0} (g : Ghosts D) (worker line : ℕ) (tag : Tag) (main : List ℕ) (start u w : Core D) (answer : Named) (n : ℕ) (a : Goes g n start u) (lines : KeepsLines start u)
+module _ {D : Type 0} (g : Ghosts D) (worker line : ℕ) (tag : Tag) (main : List ℕ) (start u w : Core D) (answer : Named) (n : ℕ) (a : PreservesVolume g n start u) (lines : KeepsLines start u)
     (core_u : IsCore g u) (runs : u.stopped ≡ 0) (known : worker < 8)
-    (core_w : IsCore g w) (b : Goes g 1 u w) (no_page : answer ≡ named.NoPage → (names_of g u).space.room ≡ 0)
-    (placed : IfPlaced answer (PutsPage g worker line tag main u w)) (none : (IsPlaced answer → ⊥) → PutsNone g answer u w) (cause : HasCause g (answer ≡ named.Fault) u w) where
+    (core_w : IsCore g w) (b : PreservesVolume g 1 u w) (no_page : answer ≡ named.NoPage → (names_of g u).space.room ≡ 0)
+    (placed : IfPlaced answer (PutsPage g worker line tag main u w)) (none : (IsPlaced answer → ⊥) → PutsNone g answer u w) (cause : FailureIsCounted g (answer ≡ named.Fault) u w) where
   is_put : (at : Pointer) → PutsPage g worker line tag main u w at → PutsInFlight g worker line tag main start w
   is_put at p = record {
     at = at;
@@ -155,11 +155,11 @@ module _ {D : Type 0} (g : Ghosts D) (worker line : ℕ) (tag : Tag) (main : Lis
 -- ---- a round, and the next try
 
 module _ {D : Type 0} (g : Ghosts D) (worker line : ℕ) (tag : Tag) (main : List ℕ) (start s u : Core D) (t : Tries g worker line tag main start s named.NoPage)
-    (b : Goes g (2 ^ 20) s u) (lines : KeepsLines s u) where
+    (b : PreservesVolume g (2 ^ 20) s u) (lines : KeepsLines s u) where
   abbrev pub taken_then : ℕ
   taken_then = t.taken + 2 ^ 20
 
-  pub goes_round : Goes g taken_then start u
+  pub goes_round : PreservesVolume g taken_then start u
   goes_round = goes_then g start s u t.taken (2 ^ 20) t.goes b
 
   pub lines_round : KeepsLines start u
@@ -172,7 +172,7 @@ module _ {D : Type 0} (g : Ghosts D) (worker line : ℕ) (tag : Tag) (main : Lis
 
 -- one that is nearer
 pub nearer_then : {D : Type 0} (g : Ghosts D) (m : Moving D) (s u w : Core D) (answer : Named) → IsVolumeShape (g.shape s.device) → IsNames (g.shape s.device) (g.next_stamp s.device) (names_of g s)
-    → IsNames (g.shape u.device) (g.next_stamp u.device) (names_of g u) → (names_of g s).space.room ≡ 0 → RoundIsDone g m s u → (answer ≡ named.NoPage → (names_of g u).space.room ≡ 0)
+    → IsNames (g.shape u.device) (g.next_stamp u.device) (names_of g u) → (names_of g s).space.room ≡ 0 → ReclaimPassIsDone g m s u → (answer ≡ named.NoPage → (names_of g u).space.room ≡ 0)
     → ((IsPlaced answer → ⊥) → PutsNone g answer u w) → tries_left answer (names_of g w).space < tries_left named.NoPage (names_of g s).space
 nearer_then g m s u w answer volume names_s names_u full r no_page none =
     less_left (names_of g s).space (names_of g w).space answer

@@ -14,12 +14,12 @@ use Rattle.nl_core_callbacks.specs.Laws.{TreesStay}
 use Rattle.nl_iface.specs.Holders.{IsRef, always, wants_tagged}
 use Rattle.nl_iface.specs.Names.{Has, LivePage, Names, led}
 use Rattle.nl_meta.specs.Committed.{VirtualMap}
-use Rattle.nl_meta.specs.Consistent.{IsThere, OnePointer, PageOfStamp, PointersRight}
+use Rattle.nl_meta.specs.Consistent.{PointerIsThere, OnePointer, PageOfStamp, PointersRight}
 use Rattle.nl_meta.specs.Nodes.{Held, graph_of, held_by, held_in, pointers_of}
 use Rattle.nl_meta.specs.PointerLists.{tagged_in, with_tag}
 use Rattle.nl_meta.proofs.Lists.{some_in}
 use Rattle.nl_meta_running.specs.FileLaws.{IsRight}
-use Rattle.nl_spec_commits.specs.Trees.{RunsAs}
+use Rattle.nl_spec_commits.specs.Trees.{RepresentsTree}
 
 -- ---- lists
 
@@ -99,10 +99,10 @@ module _ (shape : Shape) (old new : VirtualMap) (same : SameButNames (graph_of s
     pub leads : (x : Tag × Pointer) → Has (tagged_in shape new) x → IsRef names always (wants_tagged x) x.1.name
 
   module _ (page_of_stamp : ℕ → Option PageOfStamp) (names : Names) (l : Leads names) (trees_stay : TreesStay) where
-    there_bare : (k : Held) → IsThere page_of_stamp k → IsThere page_of_stamp (nameless_held k)
+    there_bare : (k : Held) → PointerIsThere page_of_stamp k → PointerIsThere page_of_stamp (nameless_held k)
     there_bare k t = record { bytes = t.bytes; holds = t.holds; whole = t.whole; behind = t.behind }
 
-    there_named : (h : Held) → IsThere page_of_stamp (nameless_held h) → IsThere page_of_stamp h
+    there_named : (h : Held) → PointerIsThere page_of_stamp (nameless_held h) → PointerIsThere page_of_stamp h
     there_named h t = record { bytes = t.bytes; holds = t.holds; whole = t.whole; behind = t.behind }
 
     -- two pointers of one name lead to one page, which has one tag
@@ -114,11 +114,11 @@ module _ (shape : Shape) (old new : VirtualMap) (same : SameButNames (graph_of s
         let tag : h.tag ≡ k.tag = sym a.2.0 ∙ ap (λ (p : LivePage). p.tag) page ∙ b.2.0 in
         (ap (λ (t : Tag). t.ino) tag, ap (λ (t : Tag). t.index) tag)
 
-    pointers_right : PointersRight (held_in shape old) (IsThere page_of_stamp) → PointersRight (held_in shape new) (IsThere page_of_stamp)
+    pointers_right : PointersRight (held_in shape old) (PointerIsThere page_of_stamp) → PointersRight (held_in shape new) (PointerIsThere page_of_stamp)
     pointers_right p = record {
       below = λ h has. let k = was h has in
           subst (λ (x : Held). x.tag.index < div_ceil x.size 4096) k.2 (p.below k.0 k.1);
-      there = λ h has. let k = was h has in there_named h (subst (λ (x : Held). IsThere page_of_stamp x) k.2 (there_bare k.0 (p.there k.0 k.1)));
+      there = λ h has. let k = was h has in there_named h (subst (λ (x : Held). PointerIsThere page_of_stamp x) k.2 (there_bare k.0 (p.there k.0 k.1)));
       stamps_differ = λ h k has also e.
           let a = was h has in
           let b = was k also in
@@ -129,7 +129,7 @@ module _ (shape : Shape) (old new : VirtualMap) (same : SameButNames (graph_of s
       names_differ = one_page;
     }
 
-    pub runs_renamed : (tree : Tree) → RunsAs shape old page_of_stamp tree → RunsAs shape new page_of_stamp tree
+    pub runs_renamed : (tree : Tree) → RepresentsTree shape old page_of_stamp tree → RepresentsTree shape new page_of_stamp tree
     runs_renamed tree m = record {
       right = record {
         legal = m.right.legal;

@@ -1,13 +1,13 @@
 -- Callbacks are handled one after the other until none is left, and one victim is cleaned then.
 use Rattle.std.proofs.Common.{◌≡◌, ◌⊎◌, inl, inr, ℕ, ◌+◌, ◌*◌, ◌<◌, ◌≤◌, ◌^◌, length, refl, ap, subst, ◌∙◌, arith}
-use Rattle.nl_core_clean.specs.Laws.{IsOfARound}
+use Rattle.nl_core_clean.specs.Laws.{IsOfReclaimPass}
 use Rattle.nl_core_clean.specs.declared.cleaning.Cleaned.{Cleaned}
 use Rattle.nl_core_clean.specs.declared.cleaning.Cleaned.TheVariants as cleaned
 use Rattle.nl_flight.proofs.Carried.{most}
 use Rattle.nl_iface.specs.Device.{IsVolumeShape}
 use Rattle.nl_iface.specs.Moves.{HasNothingToCopy, IsUnhandled}
-use Rattle.nl_iface.specs.Names.{IsNames, IsTable}
-use Rattle.nl_iface.specs.Rounds.{Empties, HasCapacity, IsRound}
+use Rattle.nl_iface.specs.Names.{IsNames, IsTableOfNames}
+use Rattle.nl_iface.specs.Rounds.{Empties, HasCapacity, IsReclaimPass}
 use Rattle.nl_iface.specs.Space.{IsSpace, Space}
 use Rattle.nl_iface.specs.declared.counts.Counts.{Ghosts}
 use Rattle.nl_iface.specs.declared.moving_pages.MovingPages.{Ghosts as Moving}
@@ -17,9 +17,9 @@ use Rattle.nl_tree.specs.declared.turn.DutyAnswer.TheVariants as duty
 use Rattle.nl_core.specs.Calls.{KeepsLines}
 use Rattle.nl_core.specs.Cleaning.{CleansDevice}
 use Rattle.nl_core.specs.Core.{IsCore, names_of}
-use Rattle.nl_core.specs.Goes.{Goes}
-use Rattle.nl_core.specs.Handling.{Handles, HandlesNumber, IsPending}
-use Rattle.nl_core.specs.Rounds.{CleansOne, EmptiesTable, IfRounded, RoundIsDone}
+use Rattle.nl_core.specs.Goes.{PreservesVolume}
+use Rattle.nl_core.specs.Handling.{HandlesCallback, HandlesNumber, CallbackIsPending}
+use Rattle.nl_core.specs.Rounds.{CleansOne, EmptiesTable, IfRounded, ReclaimPassIsDone}
 use Rattle.nl_core.specs.declared.rounds.Rounded.{Rounded}
 use Rattle.nl_core.specs.declared.rounds.Rounded.TheVariants as rounded
 use Rattle.nl_core.specs.declared.state.Core.{Core}
@@ -35,7 +35,7 @@ pub record HandlesOn {D : Type 0} (g : Ghosts D) (start now : Core D) : Type 0 w
   pub lines : KeepsLines start now
   pub before : OpenBefore (names_of g start) (names_of g now)
   pub taken : ℕ
-  pub goes : Goes g taken start now
+  pub goes : PreservesVolume g taken start now
   pub few : taken + 512 * left (names_of g start) (names_of g now) ≤ 512 * left (names_of g start) (names_of g start)
 
 module _ {D : Type 0} (g : Ghosts D) where
@@ -63,22 +63,22 @@ module _ {D : Type 0} (g : Ghosts D) where
     pub has_numbers : g.next_stamp u.device + 2 ^ 20 ≤ 2 ^ 63 → g.next_stamp v.device + 512 ≤ 2 ^ 63
     has_numbers room = let few = few_taken in let taken = on.goes.stamps.at_most in omega (arith, room, few, taken)
 
-    pub goes_all : Goes g (2 ^ 19) u v
+    pub goes_all : PreservesVolume g (2 ^ 19) u v
     goes_all = goes_more g on.taken (2 ^ 19) u v few_taken on.goes
 
-    module _ (table : IsTable (names_of g u)) (number : ℕ) (was : IsUnhandled (names_of g v) number) (w : Core D) (goes : Goes g 512 v w) where
-      taken_then : Goes g (on.taken + 512) u w
+    module _ (table : IsTableOfNames (names_of g u)) (number : ℕ) (was : IsUnhandled (names_of g v) number) (w : Core D) (goes : PreservesVolume g 512 v w) where
+      taken_then : PreservesVolume g (on.taken + 512) u w
       taken_then = goes_then g u v w on.taken 512 on.goes goes
 
       -- the call for a callback that is unhandled takes no more than there are
-      pub goes_next : Goes g (2 ^ 19) u w
+      pub goes_next : PreservesVolume g (2 ^ 19) u w
       goes_next =
           let some = left_some (names_of g u) (names_of g v) table on.before number was in
           let few = on.few in
           let most = few_left in
           goes_more g (on.taken + 512) (2 ^ 19) u w (omega (arith, some, few, most)) taken_then
 
-      module _ (now : IsTable (names_of g v)) (h : HandlesNumber g number v w) where
+      module _ (now : IsTableOfNames (names_of g v)) (h : HandlesNumber g number v w) where
         pub falls : left (names_of g u) (names_of g w) < left (names_of g u) (names_of g v)
         falls = left_falls (names_of g u) (names_of g v) table on.before number was (names_of g w) now h.others h.handled
 
@@ -97,11 +97,11 @@ module _ {D : Type 0} (g : Ghosts D) where
 
 -- ---- what a call answers for one number
 
-module _ {D : Type 0} (g : Ghosts D) (v w : Core D) (number : ℕ) (answer : DutyAnswer) (h : Handles g number v w answer) where
+module _ {D : Type 0} (g : Ghosts D) (v w : Core D) (number : ℕ) (answer : DutyAnswer) (h : HandlesCallback g number v w answer) where
   -- where the callback is pending
-  pub handles_number : IsPending (names_of g v) number → (answer ≡ duty.Did) ⊎ (answer ≡ duty.Nothing) → HandlesNumber g number v w
-  handles_number pending (inl is) = (subst (λ (a : DutyAnswer). Handles g number v w a) is h).1
-  handles_number pending (inr is) = absurd ((subst (λ (a : DutyAnswer). Handles g number v w a) is h).0 pending)
+  pub handles_number : CallbackIsPending (names_of g v) number → (answer ≡ duty.Did) ⊎ (answer ≡ duty.Nothing) → HandlesNumber g number v w
+  handles_number pending (inl is) = (subst (λ (a : DutyAnswer). HandlesCallback g number v w a) is h).1
+  handles_number pending (inr is) = absurd ((subst (λ (a : DutyAnswer). HandlesCallback g number v w a) is h).0 pending)
 
 -- ---- answers of rounds
 
@@ -123,7 +123,7 @@ none_dead s is no_pairs (inr (zero_in_hand, inr (inr free))) none =
     let kept = is.kept in
     absurd (omega (arith, waiting, keeps, kept, no_pairs, none, free))
 
-module _ {D : Type 0} (g : Ghosts D) (m : Moving D) (u v w : Core D) (emptied : EmptiesTable g u v) (core : IsCore g v) (space : IsSpace (names_of g v).space) (law : IsOfARound)
+module _ {D : Type 0} (g : Ghosts D) (m : Moving D) (u v w : Core D) (emptied : EmptiesTable g u v) (core : IsCore g v) (space : IsSpace (names_of g v).space) (law : IsOfReclaimPass)
     (answer : Cleaned) (done : (answer ≡ cleaned.Done) ⊎ (answer ≡ cleaned.Nothing)) (cleans : CleansDevice g m v w answer) where
   has_capacity : HasCapacity (names_of g v).space
   has_capacity = record {
@@ -137,7 +137,7 @@ module _ {D : Type 0} (g : Ghosts D) (m : Moving D) (u v w : Core D) (emptied : 
         omega (arith, counted, few, flight, freed);
   }
 
-  is_round : IsRound (names_of g u).space (names_of g w).space
+  is_round : IsReclaimPass (names_of g u).space (names_of g w).space
   is_round = record {
     emptied = (names_of g v).space;
     empties = emptied.space;
@@ -152,7 +152,7 @@ module _ {D : Type 0} (g : Ghosts D) (m : Moving D) (u v w : Core D) (emptied : 
       let n = subst (λ x. CleansDevice g m v w x) is k in
       inr (n, ap (λ (s : Space). s.dead) n.space.2 ∙ none_dead (names_of g v).space space emptied.no_pairs n.space.0 n.space.1)
 
-  pub round_is_done : RoundIsDone g m u w
+  pub round_is_done : ReclaimPassIsDone g m u w
   unfolding is_round
   round_is_done =
       let ends = rounds_end.none_in_hand (names_of g u).space (names_of g w).space is_round space in

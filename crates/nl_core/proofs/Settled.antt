@@ -10,7 +10,7 @@ use Rattle.nl_field.specs.declared.pointer.Pointer.{Pointer}
 use Rattle.nl_field.specs.declared.shape.Shape.{Shape}
 use Rattle.nl_core_callbacks.specs.Handled.{nameless_body}
 use Rattle.nl_flight.specs.Flight.{carried}
-use Rattle.nl_spec_holders.specs.Holding.{Holding, MarkedTo}
+use Rattle.nl_spec_holders.specs.Holding.{Holding, HandledUpTo}
 use Rattle.nl_spec_holders.specs.Laws.{OldNamesDiffer}
 use Rattle.nl_spec_holders.proofs.LawProofs.{none_handled}
 use Rattle.nl_iface.specs.Calls.{KeepsMedium, StoresPages}
@@ -25,7 +25,7 @@ use Rattle.nl_field.specs.CrashStates.{Earlier, Rose, top}
 use Rattle.nl_field.specs.PointerItems.{PointerItems}
 use Rattle.nl_flight.specs.Flight.{InFlight}
 use Rattle.nl_journal.specs.Progress.{HasNumber, begun, next_after, raised, units_left}
-use Rattle.nl_journal.specs.Units.{Ends}
+use Rattle.nl_journal.specs.Units.{EndsCommit}
 use Rattle.nl_journal.specs.declared.answers.Phase.{Phase}
 use Rattle.nl_journal.specs.declared.answers.Phase.TheVariants.{Header, Image, Commit, Home}
 use Rattle.nl_journal.proofs.CommitSteps.{begun_none}
@@ -33,11 +33,11 @@ use Rattle.nl_meta.specs.Consistent.{PageOfStamp}
 use Rattle.nl_meta.specs.Nodes.{graph_of}
 use Rattle.nl_meta.specs.Pages.{IsPages}
 use Rattle.nl_meta_running.specs.Running.{IsNeeded, running_on}
-use Rattle.nl_journal_commit.specs.Completing.{IsOpen}
+use Rattle.nl_journal_commit.specs.Completing.{AwaitsCommitPage}
 use Rattle.nl_journal_commit.specs.Standing.{IsJournaled}
 use Rattle.nl_journal_commit.proofs.Standing.{addresses_stand}
 use Rattle.nl_spec_commits.specs.Held.{IsHeldVolume}
-use Rattle.nl_spec_commits.specs.SettlingLaws.{IsTold as IsHeldTold}
+use Rattle.nl_spec_commits.specs.SettlingLaws.{JournalIsObservable as IsHeldTold}
 use Rattle.nl_spec_commits.specs.Trees.{Trees}
 use Rattle.nl_tree.specs.Tree.{Tree}
 use Rattle.nl_spec_commits.proofs.DeviceTrees.{addresses_go}
@@ -47,12 +47,12 @@ use Rattle.std.specs.Prelude.{IfSome}
 use Rattle.nl_meta.specs.Pages.{dirty_pages}
 use Rattle.nl_journal_commit.specs.Committing.{ChangesAt}
 use Rattle.nl_journal_commit.specs.Completing.{IsDecided, NumberPaid}
-use Rattle.nl_spec_commits.specs.TreeLaws.{moment_of}
+use Rattle.nl_spec_commits.specs.TreeLaws.{last_commit_moment}
 use Rattle.nl_spec_commits.proofs.Freezing.{freeze_opens}
 use Rattle.nl_core.specs.Calls.{CommitsAll}
 use Rattle.nl_core.specs.Core.{HasSpace, IsCore, IsPhysical, begun_of, names_of, running_of}
-use Rattle.nl_core.specs.Goes.{Goes, GoesTo, RunsOnAs}
-use Rattle.nl_core.specs.Trees.{CoreRuns, CoreStands, IsTold}
+use Rattle.nl_core.specs.Goes.{PreservesVolume, PreservesTrees, PreservesTree}
+use Rattle.nl_core.specs.Trees.{CoreRepresentsTree, CoreRepresents, CoreIsObservable}
 use Rattle.nl_core.specs.Writing.{HasTable, Settles, WritesAll, committed_count, counted_pages}
 use Rattle.nl_core.specs.declared.state.Core.{Core}
 use Rattle.nl_core.proofs.Running.{runs_on}
@@ -130,7 +130,7 @@ module _ {D : Type 0} (g : Ghosts D) (v w u : Core D) (answer : VirtualWrite) (b
   mid : IsCore g w
   mid = written_core g v w answer b core volume few stores_w writes formed_w
 
-  ends : Ends (next_after (begun v.journal (length v.meta.frozen.addresses))) v.journal w.journal (counted_pages v) w.meta
+  ends : EndsCommit (next_after (begun v.journal (length v.meta.frozen.addresses))) v.journal w.journal (counted_pages v) w.meta
   ends = b.commits.in_memory.ends done
 
   kept : KeepsMedium g w.device u.device
@@ -146,7 +146,7 @@ module _ {D : Type 0} (g : Ghosts D) (v w u : Core D) (answer : VirtualWrite) (b
   none_left : length w.meta.frozen.addresses ≡ 0
   none_left = ap length ends.thawed
 
-  shut : IsOpen w.journal w.meta.frozen → ⊥
+  shut : AwaitsCommitPage w.journal w.meta.frozen → ⊥
   shut more = shut_by w.journal.phase (length w.meta.frozen.addresses) ends.idle none_left more
     where
       shut_by : (phase : Phase) (n : ℕ) → phase ≡ Header → n ≡ 0 → n < units_left phase n → ⊥
@@ -185,7 +185,7 @@ module _ {D : Type 0} (g : Ghosts D) (v w u : Core D) (answer : VirtualWrite) (b
   fewer : Fewer (names_of g w) (names_of g u)
   fewer = fewer_then first_fewer (acknowledged_fewer (begun_of v + 1) (g.names s.between) (names_of g u) s.acknowledges)
 
-  marked_m : MarkedTo (g.names s.between) (begun_of v + 1)
+  marked_m : HandledUpTo (g.names s.between) (begun_of v + 1)
   marked_m c n has at =
       let one = first_fewer.pending c has in
       let t = b.passes.named.tables in
@@ -269,13 +269,13 @@ module _ {D : Type 0} (g : Ghosts D) (v w u : Core D) (answer : VirtualWrite) (b
 
   -- ---- how it went on
 
-  first : Goes g 512 v w
+  first : PreservesVolume g 512 v w
   first = written_goes g v w answer b core volume few stores_w writes held
 
   same_count : u.count ≡ w.count
   same_count = ap (λ (x : Core D). x.count) s.others
 
-  told_w : IsTold g u → IsTold g w
+  told_w : CoreIsObservable g u → CoreIsObservable g w
   told_w told = record {
     tells = told.tells;
     numbers = subst (λ (x : Core D). HasNumber x.journal (length x.meta.frozen.addresses)) s.others told.numbers;
@@ -283,23 +283,23 @@ module _ {D : Type 0} (g : Ghosts D) (v w u : Core D) (answer : VirtualWrite) (b
     moments = subst (λ n. n < 9223372036854775808) kept.clock told.moments;
   }
 
-  runs_settled : g.tells → (pages : ℕ → Option PageOfStamp) (tree : Tree) → CoreRuns g w pages tree → CoreRuns g settled_at pages tree
+  runs_settled : g.tells → (pages : ℕ → Option PageOfStamp) (tree : Tree) → CoreRepresentsTree g w pages tree → CoreRepresentsTree g settled_at pages tree
   runs_settled tells pages tree at = runs_on g w settled_at pages tree at kept.virtual.same_shape needed_u
       (record { live = λ q page is. (q, fewer.live q page is, kept.bytes tells q); stamps = let same = kept.next_stamp in omega (arith, same) })
 
-  runs_to_u : g.tells → (page_of_stamp : ℕ → Option PageOfStamp) (tree : Tree) → CoreRuns g v page_of_stamp tree → RunsOnAs g u page_of_stamp tree
+  runs_to_u : g.tells → (page_of_stamp : ℕ → Option PageOfStamp) (tree : Tree) → CoreRepresentsTree g v page_of_stamp tree → PreservesTree g u page_of_stamp tree
   runs_to_u tells page_of_stamp tree at =
       let k = first.runs tells page_of_stamp tree at in
-      record { pages = k.pages; extends = k.extends; runs = subst (λ (x : Core D). CoreRuns g x k.pages tree) (sym s.others) (runs_settled tells k.pages tree k.runs) }
+      record { pages = k.pages; extends = k.extends; runs = subst (λ (x : Core D). CoreRepresentsTree g x k.pages tree) (sym s.others) (runs_settled tells k.pages tree k.runs) }
 
-  goes_to_u : IsTold g u → (page_of_stamp : ℕ → Option PageOfStamp) (t : Trees) → CoreStands g v page_of_stamp t → GoesTo g v u page_of_stamp t
+  goes_to_u : CoreIsObservable g u → (page_of_stamp : ℕ → Option PageOfStamp) (t : Trees) → CoreRepresents g v page_of_stamp t → PreservesTrees g v u page_of_stamp t
   goes_to_u told page_of_stamp t at =
       let k = first.trees (told_w told) page_of_stamp t at in
       let w_told = told_w told in
       record {
         pages = k.pages;
         trees = k.trees;
-        stands = subst (λ (x : Core D). CoreStands g x k.pages k.trees) (sym s.others) (record {
+        stands = subst (λ (x : Core D). CoreRepresents g x k.pages k.trees) (sym s.others) (record {
           stands = addresses_go g w.device u.device w.journal w.meta w.count k.pages k.trees volume_w w_told.tells w_told.numbers mid.journaled kept.virtual k.stands.stands;
           runs = runs_settled w_told.tells k.pages k.trees.running k.stands.runs;
           committed = k.stands.committed;
@@ -311,7 +311,7 @@ module _ {D : Type 0} (g : Ghosts D) (v w u : Core D) (answer : VirtualWrite) (b
         later = k.later;
       }
 
-  pub settled_goes : Goes g 512 v u
+  pub settled_goes : PreservesVolume g 512 v u
   settled_goes = record {
     same_shape = kept.virtual.same_shape ∙ first.same_shape;
     count = same_count ∙ first.count;
@@ -367,8 +367,8 @@ module _ {D : Type 0} (g : Ghosts D) (v w u : Core D) (answer : VirtualWrite) (b
   decided_by (Some m) is =
       let d = subst (λ (o : Option ℕ). IfSome o (ChangesAt g v.device w.device v.journal w.journal (counted_pages v) w.meta)) is b.decided_at in (
         b.committed ∙ ap (λ o. committed_count v b.earlier o) is,
-        subst (λ n. Earlier (g.clock v.device) n) (sym (b.moment ∙ ap (λ o. moment_of v.moment b.earlier o) is)) d.later,
-        subst (λ n. g.clock v.device ≤ n) (sym (b.moment ∙ ap (λ o. moment_of v.moment b.earlier o) is)) d.from,
+        subst (λ n. Earlier (g.clock v.device) n) (sym (b.moment ∙ ap (λ o. last_commit_moment v.moment b.earlier o) is)) d.later,
+        subst (λ n. g.clock v.device ≤ n) (sym (b.moment ∙ ap (λ o. last_commit_moment v.moment b.earlier o) is)) d.from,
       )
 
   pub commits_all : (number : ℕ) → number ≡ next_after (begun_of v) → CommitsAll g v u number

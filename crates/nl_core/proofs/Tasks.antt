@@ -12,21 +12,21 @@ use Rattle.nl_iface.specs.declared.moving.Copying.{Copying}
 use Rattle.nl_iface.specs.declared.moving.Copying.TheVariants as copying
 use Rattle.nl_iface.specs.Calls.{CallCounted, NoWriteFailed, OnlyReads, StoresMap, StoresPages}
 use Rattle.nl_iface.specs.Device.{IsVolumeShape}
-use Rattle.nl_iface.specs.Moves.{Begins, ErasesAtStops, ErasesVictim, HasCopied, HasNothingToCopy, KeepsCleaning}
+use Rattle.nl_iface.specs.Moves.{BeginsVictim, ErasesAtCrashes, ErasesVictim, HasCopied, HasNothingToCopy, KeepsCleaning}
 use Rattle.nl_iface.specs.Counting.{FailuresCounted}
 use Rattle.nl_iface.specs.Space.{CanLand}
-use Rattle.nl_iface.specs.Victims.{CanBegin, StaysOrTakes, Takes}
+use Rattle.nl_iface.specs.Victims.{CanBeginVictim, StaysOrTakes, TakesVictimOf}
 use Rattle.nl_iface.specs.declared.counts.Counts.{Ghosts}
 use Rattle.nl_iface.specs.declared.moving_pages.MovingPages.{Ghosts as Moving}
 use Rattle.nl_journal.specs.declared.answers.Committing.{Committing}
 use Rattle.nl_journal.specs.declared.answers.Committing.TheVariants as commits
 use Rattle.nl_iface.specs.declared.moving.Erasing.{Erasing}
 use Rattle.nl_iface.specs.declared.moving.Erasing.TheVariants as erasure
-use Rattle.nl_core.specs.Calls.{Commits}
+use Rattle.nl_core.specs.Calls.{CommitsByAnswer}
 use Rattle.nl_core.specs.Core.{IsCore, names_of}
-use Rattle.nl_core.specs.Duties.{DoesDuty, DoesTask, HasNothingToDo, IsAtRest, OnlyReadsDevice, Stays, Wipes, duty_of_commit, duty_of_copy, duty_of_erase}
-use Rattle.nl_core.specs.Goes.{Goes}
-use Rattle.nl_core.specs.Handling.{Handles}
+use Rattle.nl_core.specs.Duties.{RunsBackgroundTask, DoesTask, HasNothingToDo, IsAtRest, OnlyReadsDevice, IsUnchangedByTask, Wipes, duty_of_commit, duty_of_copy, duty_of_erase}
+use Rattle.nl_core.specs.Goes.{PreservesVolume}
+use Rattle.nl_core.specs.Handling.{HandlesCallback}
 use Rattle.nl_core.specs.Writing.{stopped_by}
 use Rattle.nl_core.specs.declared.state.Core.{Core}
 use Rattle.nl_core.proofs.Cleaned.{carried_core, carried_goes}
@@ -115,20 +115,20 @@ module _ {D : Type 0} (g : Ghosts D) (v : Core D) (t : D) (core : IsCore g v) (w
           carried_core g v (noted g v t) refl core volume writes refl counts.reads_never_fall counts.writes_never_fall (copy_held g v.device t ends was left kept) segment.0 segment.1 map stores
           (λ none. ⊎_elim (λ rose. absurd (none rose)) (λ l. l) lands) (λ tells none. copy_stored g v.device t was left tells) formed
 
-      pub copied_goes : Goes g 0 v (noted g v t)
+      pub copied_goes : PreservesVolume g 0 v (noted g v t)
       copied_goes = let segment = copy_segment g v.device t ends in
           carried_goes g v (noted g v t) refl core volume writes refl counts.reads_never_fall counts.writes_never_fall (copy_held g v.device t ends was left kept) segment.0 segment.1 map stores
           (λ none. ⊎_elim (λ rose. absurd (none rose)) (λ l. l) lands) (λ tells none. copy_stored g v.device t was left tells)
 
     -- an erase
-    module _ (answer : Erasing) (ends : EraseEnds g v.device t) (left : g.tells → ErasesAtStops g v.device t) (kept : KeepsCleaning g v.device t) (reads : g.read_faults t ≡ g.read_faults v.device)
+    module _ (answer : Erasing) (ends : EraseEnds g v.device t) (left : g.tells → ErasesAtCrashes g v.device t) (kept : KeepsCleaning g v.device t) (reads : g.read_faults t ≡ g.read_faults v.device)
         (counts : FailuresCounted ⊤ (g.write_faults v.device) (g.write_faults t) (answer ≡ erasure.Fault)) where
       pub erased_core : g.formed t → IsCore g (noted g v t)
       erased_core formed = let segment = erase_segment g v.device t ends in
           carried_core g v (noted g v t) refl core volume writes refl (omega (arith, reads)) counts.never_falls (erase_held g v.device t ends left kept) segment.0 segment.1 map stores
           (λ none. erase_lands g v.device t ends lands_before) (λ tells none. erase_stored g v.device t ends none tells) formed
 
-      pub erased_goes : Goes g 0 v (noted g v t)
+      pub erased_goes : PreservesVolume g 0 v (noted g v t)
       erased_goes = let segment = erase_segment g v.device t ends in
           carried_goes g v (noted g v t) refl core volume writes refl (omega (arith, reads)) counts.never_falls (erase_held g v.device t ends left kept) segment.0 segment.1 map stores
           (λ none. erase_lands g v.device t ends lands_before) (λ tells none. erase_stored g v.device t ends none tells)
@@ -143,7 +143,7 @@ module _ {D : Type 0} (g : Ghosts D) (v : Core D) (t : D) (core : IsCore g v) (w
           carried_core g v (record v { device = t }) refl core volume writes (sym (runs_on (quiet same))) (omega (arith, reads)) (omega (arith, same)) (begin_held g v.device t ends) segment.0 segment.1 map stores
           (λ none. begin_lands g v.device t ends lands_before) (λ tells none. begin_stored g v.device t ends tells) formed
 
-      pub begun_goes : Goes g 0 v (record v { device = t })
+      pub begun_goes : PreservesVolume g 0 v (record v { device = t })
       begun_goes = let segment = begin_segment g v.device t ends in let same = same_writes in
           carried_goes g v (record v { device = t }) refl core volume writes (sym (runs_on (quiet same))) (omega (arith, reads)) (omega (arith, same)) (begin_held g v.device t ends) segment.0 segment.1 map stores
           (λ none. begin_lands g v.device t ends lands_before) (λ tells none. begin_stored g v.device t ends tells)
@@ -175,8 +175,8 @@ module _ {D : Type 0} (g : Ghosts D) (v : Core D) (t : D) (core : IsCore g v) (w
 
 -- ---- levelling
 
-pub level_does : {D : Type 0} (g : Ghosts D) (m : Moving D) (v : Core D) (t : D) (begun : Bool) → (begun ≡ true → Begins g v.device t) → (begun ≡ true → Takes (m.coldest v.device) (m.victim t)) → (begun ≡ false → OnlyReads g v.device t)
-    → (begun ≡ true ↔ (CanBegin (names_of g v).space × ((block : ℕ) × m.coldest v.device block))) → g.read_faults t ≡ g.read_faults v.device → DoesTask g m task.Level v (record v { device = t }) (if begun then duty.Did else duty.Nothing)
+pub level_does : {D : Type 0} (g : Ghosts D) (m : Moving D) (v : Core D) (t : D) (begun : Bool) → (begun ≡ true → BeginsVictim g v.device t) → (begun ≡ true → TakesVictimOf (m.coldest v.device) (m.victim t)) → (begun ≡ false → OnlyReads g v.device t)
+    → (begun ≡ true ↔ (CanBeginVictim (names_of g v).space × ((block : ℕ) × m.coldest v.device block))) → g.read_faults t ≡ g.read_faults v.device → DoesTask g m task.Level v (record v { device = t }) (if begun then duty.Did else duty.Nothing)
 level_does g m v t true begins taken none exactly faults = record {
   nothing = (λ e. absurd (let no : ⊥ = cc in no), λ why. absurd (why (exactly.0 refl)));
   same = λ e. absurd (let no : ⊥ = cc in no);
@@ -193,7 +193,7 @@ level_does g m v t false begins taken none exactly faults = record {
     apart : false ≡ true → ⊥
     apart e = cc
 
-pub level_ends : {D : Type 0} (g : Ghosts D) (s t : D) (begun : Bool) → (begun ≡ true → Begins g s t) → (begun ≡ false → OnlyReads g s t) → BeginEnds g s t
+pub level_ends : {D : Type 0} (g : Ghosts D) (s t : D) (begun : Bool) → (begun ≡ true → BeginsVictim g s t) → (begun ≡ false → OnlyReads g s t) → BeginEnds g s t
 level_ends g s t true begins none = inl (begins refl)
 level_ends g s t false begins none = inr (none refl)
 
@@ -204,7 +204,7 @@ level_fault false e = cc
 -- ---- a commit, and a callback
 
 module _ {D : Type 0} (g : Ghosts D) (v w : Core D) where
-  pub commit_does : (m : Moving D) (answer : Committing) → (HasNothingToDo g m task.Commit v → ⊥) → Commits g v w answer → DoesTask g m task.Commit v w (duty_of_commit answer)
+  pub commit_does : (m : Moving D) (answer : Committing) → (HasNothingToDo g m task.Commit v → ⊥) → CommitsByAnswer g v w answer → DoesTask g m task.Commit v w (duty_of_commit answer)
   commit_does m (commits.Done n) due c = record {
     nothing = (λ e. absurd (let no : ⊥ = cc in no), λ none. absurd (due none));
     same = λ e. absurd (let no : ⊥ = cc in no);
@@ -224,12 +224,12 @@ module _ {D : Type 0} (g : Ghosts D) (v w : Core D) where
     lost = λ x y e. absurd (let no : ⊥ = cc in no);
   }
 
-  pub commit_keeps_lines : (answer : Committing) → Commits g v w answer → w.flight ≡ v.flight
+  pub commit_keeps_lines : (answer : Committing) → CommitsByAnswer g v w answer → w.flight ≡ v.flight
   commit_keeps_lines (commits.Done n) c = c.same_flight
   commit_keeps_lines (commits.Lost wanted found) c = c.0.same_flight
   commit_keeps_lines commits.Fault c = c.same_flight
 
-  pub handle_does : (m : Moving D) (number : ℕ) (answer : DutyAnswer) → Handles g number v w answer → DoesTask g m (task.Handle number) v w answer
+  pub handle_does : (m : Moving D) (number : ℕ) (answer : DutyAnswer) → HandlesCallback g number v w answer → DoesTask g m (task.Handle number) v w answer
   handle_does m number duty.Did h = record {
     nothing = (λ e. absurd (let no : ⊥ = cc in no), λ none. absurd (none h.0));
     same = λ e. absurd (let no : ⊥ = cc in no);
@@ -257,7 +257,7 @@ module _ {D : Type 0} (g : Ghosts D) (v w : Core D) where
 
 -- ---- any volume
 
-stays_itself : {D : Type 0} (g : Ghosts D) (v : Core D) (which : Duty) → Stays g which v v
+stays_itself : {D : Type 0} (g : Ghosts D) (v : Core D) (which : Duty) → IsUnchangedByTask g which v v
 stays_itself g v task.Copy = record { reads = reads_itself g v.device; read_faults = refl; others = refl }
 stays_itself g v task.Erase = record { reads = reads_itself g v.device; read_faults = refl; others = refl }
 stays_itself g v (task.Handle number) = refl
@@ -272,7 +272,7 @@ nothing_does g m v none = record {
   lost = λ w f e. absurd (let no : ⊥ = cc in no);
 }
 
-pub rest_does : {D : Type 0} (g : Ghosts D) (m : Moving D) (v : Core D) (which : Duty) → IsAtRest g v → DoesDuty g m which v v duty.Nothing
+pub rest_does : {D : Type 0} (g : Ghosts D) (m : Moving D) (v : Core D) (which : Duty) → IsAtRest g v → RunsBackgroundTask g m which v v duty.Nothing
 rest_does g m v which rest = record {
   nothing = (λ e. inl rest, λ why. refl);
   same = λ e. stays_itself g v which;
@@ -280,7 +280,7 @@ rest_does g m v which rest = record {
   lost = λ w f e. absurd (let no : ⊥ = cc in no);
 }
 
-pub task_does : {D : Type 0} (g : Ghosts D) (m : Moving D) (v w : Core D) (which : Duty) (answer : DutyAnswer) → (IsAtRest g v → ⊥) → DoesTask g m which v w answer → DoesDuty g m which v w answer
+pub task_does : {D : Type 0} (g : Ghosts D) (m : Moving D) (v w : Core D) (which : Duty) (answer : DutyAnswer) → (IsAtRest g v → ⊥) → DoesTask g m which v w answer → RunsBackgroundTask g m which v w answer
 task_does g m v w which answer runs d = record {
   nothing = (λ e. inr (d.nothing.0 e), λ why. d.nothing.1 (⊎_elim (λ rest. absurd (runs rest)) (λ none. none) why));
   same = d.same;

@@ -15,11 +15,11 @@ use Rattle.nl_core_callbacks.specs.declared.draining.Drained.{Drained}
 use Rattle.nl_core_callbacks.specs.declared.draining.Drained.TheVariants as drained
 use Rattle.nl_flight.specs.Flight.{InFlight, IsFlight, carried, extra, of_worker}
 use Rattle.nl_flight.specs.declared.page.FlightPage.{FlightPage}
-use Rattle.nl_spec_holders.specs.Holding.{MarkedTo}
+use Rattle.nl_spec_holders.specs.Holding.{HandledUpTo}
 use Rattle.nl_iface.specs.Calls.{KeepsMedium, StoresPages}
 use Rattle.nl_iface.specs.Device.{IsVolumeShape}
 use Rattle.nl_iface.specs.Holders.{IsRef, always, wants_tagged}
-use Rattle.nl_iface.specs.Names.{Has, IsNames, IsTable, Names, led, told_page}
+use Rattle.nl_iface.specs.Names.{Has, IsNames, IsTableOfNames, Names, led, told_page}
 use Rattle.nl_iface.specs.Space.{CanLand, Space}
 use Rattle.nl_iface.specs.declared.Callback.{Callback}
 use Rattle.nl_iface.specs.declared.counts.Counts.{Ghosts}
@@ -30,23 +30,23 @@ use Rattle.nl_meta.specs.Nodes.{graph_of}
 use Rattle.nl_meta.specs.Pages.{Frozen}
 use Rattle.nl_meta.specs.PointerLists.{tagged_in}
 use Rattle.nl_meta.proofs.Lists.{some_in}
-use Rattle.nl_meta_running.specs.Reading.{Reads}
+use Rattle.nl_meta_running.specs.Reading.{ReadsExplainStop}
 use Rattle.nl_meta_running.specs.declared.answer.Stop.{Stop}
 use Rattle.nl_meta_running.specs.declared.answer.Stop.TheVariants as stop
-use Rattle.nl_journal_commit.specs.Completing.{IsOpen}
+use Rattle.nl_journal_commit.specs.Completing.{AwaitsCommitPage}
 use Rattle.nl_journal_commit.specs.Holding.{running_holders}
 use Rattle.nl_spec_commits.specs.Held.{IsHeldVolume}
-use Rattle.nl_spec_commits.specs.Trees.{RunsAs, StandsAs, StandsFor, Trees}
+use Rattle.nl_spec_commits.specs.Trees.{RepresentsTree, RepresentsPrefix, RepresentsTrees, Trees}
 use Rattle.nl_tree.specs.Tree.{Tree}
 use Rattle.nl_spec_commits.proofs.Changing.{steps_journaled}
 use Rattle.nl_spec_commits.proofs.DeviceTrees.{addresses_go}
 use Rattle.nl_spec_commits.proofs.Firm.{medium_keeps_firm}
 use Rattle.nl_spec_commits.proofs.Steps.{handling_keeps_held}
-use Rattle.nl_core.specs.Calls.{HasCause}
-use Rattle.nl_core.specs.Core.{HasFree, HasSpace, IsCore, IsPhysical, begun_of, names_of, running_of}
-use Rattle.nl_core.specs.Goes.{Goes, Stops}
+use Rattle.nl_core.specs.Calls.{FailureIsCounted}
+use Rattle.nl_core.specs.Core.{FreeAreUnused, HasSpace, IsCore, IsPhysical, begun_of, names_of, running_of}
+use Rattle.nl_core.specs.Goes.{PreservesVolume, TurnsReadOnly}
 use Rattle.nl_core.specs.Handling.{TriesNumber}
-use Rattle.nl_core.specs.Trees.{CoreRuns, IsTold}
+use Rattle.nl_core.specs.Trees.{CoreRepresentsTree, CoreIsObservable}
 use Rattle.nl_core.specs.declared.state.Core.{Core}
 use Rattle.nl_core.proofs.Renamed.{Leads, as_many, runs_renamed}
 use Rattle.nl_core.proofs.Running.{goes_as, runs_with, with_none}
@@ -137,7 +137,7 @@ module _ (old new : List InFlight) (same : map nameless_line new ≡ map nameles
 
 -- ---- reads
 
-reads_rise : {D : Type 0} (g : Ghosts D) (s t : D) (o : Option Stop) → Reads g s t o → g.read_faults s ≤ g.read_faults t
+reads_rise : {D : Type 0} (g : Ghosts D) (s t : D) (o : Option Stop) → ReadsExplainStop g s t o → g.read_faults s ≤ g.read_faults t
 reads_rise g s t None r = omega (arith, r)
 reads_rise g s t (Some stop.Fault) r = r.never_falls
 reads_rise g s t (Some (stop.Lost w f)) r = let same = r.0 in omega (arith, same)
@@ -145,7 +145,7 @@ reads_rise g s t (Some (stop.Lost w f)) r = let same = r.0 in omega (arith, same
 -- ---- a core of which one callback was tried
 
 module _ {D : Type 0} (g : Ghosts D) (v w : Core D) (mark number : ℕ) (answer : Option Drained) (b : TriesNumber g mark number v w answer) (core : IsCore g v) (volume : IsVolumeShape (g.shape v.device))
-    (is : mark ≡ begun_of v + 1) (stores : g.tells → StoresPages g w.device) (trees_stay : TreesStay) (names : IsNames (g.shape v.device) (g.next_stamp v.device) (names_of g v)) (table : IsTable (names_of g v)) where
+    (is : mark ≡ begun_of v + 1) (stores : g.tells → StoresPages g w.device) (trees_stay : TreesStay) (names : IsNames (g.shape v.device) (g.next_stamp v.device) (names_of g v)) (table : IsTableOfNames (names_of g v)) where
   kept : KeepsMedium g v.device w.device
   kept = b.handles.medium
 
@@ -164,7 +164,7 @@ module _ {D : Type 0} (g : Ghosts D) (v w : Core D) (mark number : ℕ) (answer 
   ran : w.stopped ≡ 0 → v.stopped ≡ 0
   ran none = sym same_stopped ∙ none
 
-  stops : Stops g v w
+  stops : TurnsReadOnly g v w
   stops = record {
     stands = λ off. same_stopped;
     none = λ none rose. let low = (core.writes (ran none)).counts in let same = kept.write_faults in omega (arith, low, same, rose);
@@ -184,7 +184,7 @@ module _ {D : Type 0} (g : Ghosts D) (v w : Core D) (mark number : ℕ) (answer 
   begun_stays : begun v.journal (length w.meta.frozen.addresses) ≡ begun_of v
   begun_stays = ap (λ (f : Frozen). begun v.journal (length f.addresses)) b.handles.pages.same_frozen
 
-  marked_on : MarkedTo (names_of g w) (begun v.journal (length w.meta.frozen.addresses) + 1)
+  marked_on : HandledUpTo (names_of g w) (begun v.journal (length w.meta.frozen.addresses) + 1)
   marked_on c n has at = ⊎_elim
       (λ same.
       let low = core.marked c n (subst (λ (cs : List Callback). Has cs c) b.handles.marks.pending has) (sym same ∙ at) in
@@ -205,7 +205,7 @@ module _ {D : Type 0} (g : Ghosts D) (v w : Core D) (mark number : ℕ) (answer 
       subst (IsPhysical (g.shape v.device)) (sym new.2) (names.from_first (led (names_of g v) c.before) (told_page c) live, names.to_last (led (names_of g v) c.before) (told_page c) live))
       (b.handles.names x has)
 
-  free_on : HasFree g (record v { device = w.device; meta = w.meta; flight = w.flight; freeing = w.freeing })
+  free_on : FreeAreUnused g (record v { device = w.device; meta = w.meta; flight = w.flight; freeing = w.freeing })
   free_on = record {
     count_nodes = core.free.count_nodes ∙ ap (λ (h : Shape). h.nodes) (sym same_shape);
     count_pool = core.free.count_pool ∙ ap (λ (h : Shape). h.meta) (sym same_shape);
@@ -266,38 +266,38 @@ module _ {D : Type 0} (g : Ghosts D) (v w : Core D) (mark number : ℕ) (answer 
             (h.holds.held.running x (subst (λ (xs : List (Tag × Pointer)). Has xs x) (sym h.is_of.runs.running) has));
       }
 
-  renamed_as : (page_of_stamp : ℕ → Option PageOfStamp) (tree : Tree) → RunsAs (g.shape v.device) (running_of g v) page_of_stamp tree → RunsAs (g.shape w.device) (running_of g w) page_of_stamp tree
+  renamed_as : (page_of_stamp : ℕ → Option PageOfStamp) (tree : Tree) → RepresentsTree (g.shape v.device) (running_of g v) page_of_stamp tree → RepresentsTree (g.shape w.device) (running_of g w) page_of_stamp tree
   renamed_as page_of_stamp tree at = runs_renamed (g.shape w.device) (running_of g v) (running_of g w) same_names page_of_stamp (names_of g w) leads_on trees_stay tree
-      (subst (λ (h : Shape). RunsAs h (running_of g v) page_of_stamp tree) (sym same_shape) at)
+      (subst (λ (h : Shape). RepresentsTree h (running_of g v) page_of_stamp tree) (sym same_shape) at)
 
   abbrev now : Core D
   now = record v { device = w.device; meta = w.meta; flight = w.flight; freeing = w.freeing }
 
-  runs_now : g.tells → (page_of_stamp : ℕ → Option PageOfStamp) (tree : Tree) → CoreRuns g v page_of_stamp tree → CoreRuns g now page_of_stamp tree
+  runs_now : g.tells → (page_of_stamp : ℕ → Option PageOfStamp) (tree : Tree) → CoreRepresentsTree g v page_of_stamp tree → CoreRepresentsTree g now page_of_stamp tree
   runs_now tells page_of_stamp tree at =
       (runs_with g v now page_of_stamp tree at
       (record { live = λ q page is. (q, sym (b.handles.marks.live q) ∙ is, kept.bytes tells q); stamps = let same = kept.next_stamp in omega (arith, same) })
       tree (renamed_as page_of_stamp tree at.runs))
 
-  stands_on : (page_of_stamp : ℕ → Option PageOfStamp) (t : Trees) → g.tells → HasNumber v.journal (length v.meta.frozen.addresses) → StandsFor g v.device v.journal v.meta v.count page_of_stamp t
-      → StandsFor g w.device v.journal w.meta v.count page_of_stamp t
+  stands_on : (page_of_stamp : ℕ → Option PageOfStamp) (t : Trees) → g.tells → HasNumber v.journal (length v.meta.frozen.addresses) → RepresentsTrees g v.device v.journal v.meta v.count page_of_stamp t
+      → RepresentsTrees g w.device v.journal w.meta v.count page_of_stamp t
   stands_on page_of_stamp t tells numbers at =
       let on = addresses_go g v.device w.device v.journal v.meta v.count page_of_stamp t volume tells numbers core.journaled kept.virtual at in
       let frozen = sym b.handles.pages.same_frozen in
       record {
         running = renamed_as page_of_stamp t.running at.running;
         committed = on.committed;
-        frozen = subst (λ (f : Frozen). IsOpen v.journal f → StandsAs (g.shape w.device) (finished v.journal.phase f (committed_on g w.device)) page_of_stamp t.frozen) frozen on.frozen;
-        thawed = subst (λ (f : Frozen). (IsOpen v.journal f → ⊥) → t.frozen ≡ t.committed) frozen on.thawed;
+        frozen = subst (λ (f : Frozen). AwaitsCommitPage v.journal f → RepresentsPrefix (g.shape w.device) (finished v.journal.phase f (committed_on g w.device)) page_of_stamp t.frozen) frozen on.frozen;
+        thawed = subst (λ (f : Frozen). (AwaitsCommitPage v.journal f → ⊥) → t.frozen ≡ t.committed) frozen on.thawed;
         later = on.later;
         latest = on.latest;
       }
 
-  told_before : IsTold g now → HasNumber v.journal (length v.meta.frozen.addresses)
+  told_before : CoreIsObservable g now → HasNumber v.journal (length v.meta.frozen.addresses)
   told_before told = subst (λ (f : Frozen). HasNumber v.journal (length f.addresses)) b.handles.pages.same_frozen told.numbers
 
-  pub tried_goes : Goes g 0 v w
-  tried_goes = subst (λ (x : Core D). Goes g 0 v x) (sym b.others) (record {
+  pub tried_goes : PreservesVolume g 0 v w
+  tried_goes = subst (λ (x : Core D). PreservesVolume g 0 v x) (sym b.others) (record {
     same_shape = same_shape;
     count = refl;
     nodes = b.handles.nodes;
@@ -307,7 +307,7 @@ module _ {D : Type 0} (g : Ghosts D) (v w : Core D) (mark number : ℕ) (answer 
     writes = writes_most;
     clock = let same = kept.clock in omega (arith, same);
     moment = inl (refl, refl);
-    stops = subst (λ (x : Core D). Stops g v x) b.others stops;
+    stops = subst (λ (x : Core D). TurnsReadOnly g v x) b.others stops;
     stamps = record {
       never_falls = let n = kept.next_stamp in omega (arith, n);
       at_most = let n = kept.next_stamp in omega (arith, n);
@@ -321,5 +321,5 @@ module _ {D : Type 0} (g : Ghosts D) (v w : Core D) (mark number : ℕ) (answer 
     };
   })
 
-  pub tried_cause : HasCause g (answer ≡ Some drained.Fault) v w
-  tried_cause fault = inl ((subst (λ (o : Option Drained). Reads g v.device w.device (option_and_then drained_stop o)) fault b.reads).cause tt)
+  pub tried_cause : FailureIsCounted g (answer ≡ Some drained.Fault) v w
+  tried_cause fault = inl ((subst (λ (o : Option Drained). ReadsExplainStop g v.device w.device (option_and_then drained_stop o)) fault b.reads).cause tt)

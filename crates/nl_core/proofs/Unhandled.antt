@@ -8,7 +8,7 @@ use Rattle.nl_field.specs.declared.shape.Shape.{Shape}
 use Rattle.nl_field.proofs.Bounds.{legal_parts}
 use Rattle.nl_iface.specs.Device.{IsVolumeShape}
 use Rattle.nl_iface.specs.Moves.{IsUnhandled}
-use Rattle.nl_iface.specs.Names.{Has, IsNames, IsTable, Names, led}
+use Rattle.nl_iface.specs.Names.{Has, IsNames, IsTableOfNames, Names, led}
 use Rattle.nl_iface.specs.declared.Callback.{Callback}
 
 -- the callback has this old name, and no transaction handled it
@@ -111,7 +111,7 @@ OpenBefore s t = (c : Callback) → Has t.pending c → t.handled c.number ≡ N
 pub open_then : (r s t : Names) → OpenBefore r s → OpenBefore s t → OpenBefore r t
 open_then r s t a b c has none = let k = b c has none in a c k.0 k.1
 
-module _ (r s : Names) (start : IsTable r) (before : OpenBefore r s) (number : ℕ) (was : IsUnhandled s number) where
+module _ (r s : Names) (start : IsTableOfNames r) (before : OpenBefore r s) (number : ℕ) (was : IsUnhandled s number) where
   was_none : s.handled was.0.number ≡ None
   was_none = ap s.handled was.2 ∙ was.3
 
@@ -128,7 +128,7 @@ module _ (r s : Names) (start : IsTable r) (before : OpenBefore r s) (number : �
       let some = fewer (λ n. false) (is_open s) (λ n off. absurd (true≢false (sym off))) r.pairs was.0.before is_old refl was_open in
       omega (arith, some)
 
-  module _ (t : Names) (table : IsTable s) (then : OpenBefore s t) (is : IsUnhandled t number → ⊥) where
+  module _ (t : Names) (table : IsTableOfNames s) (then : OpenBefore s t) (is : IsUnhandled t number → ⊥) where
     open_was : (name : ℕ) → is_open t name ≡ true → is_open s name ≡ true
     open_was name sure =
         let k = open_has t name sure in

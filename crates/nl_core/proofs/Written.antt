@@ -8,14 +8,14 @@ use Rattle.nl_field.specs.SuperPage.{super_bytes}
 use Rattle.nl_field.specs.PointerItems.{PointerItems}
 use Rattle.nl_field.specs.declared.shape.Shape.{Shape}
 use Rattle.nl_flight.specs.Flight.{InFlight, IsFlight, carried}
-use Rattle.nl_spec_holders.specs.Holding.{MarkedTo}
+use Rattle.nl_spec_holders.specs.Holding.{HandledUpTo}
 use Rattle.nl_iface.specs.Calls.{NoWriteFailed, StoresPages}
 use Rattle.nl_iface.specs.Device.{IsVolumeShape}
 use Rattle.nl_iface.specs.Names.{Has, Names}
 use Rattle.nl_iface.specs.Space.{CanLand}
 use Rattle.nl_iface.specs.declared.Callback.{Callback}
 use Rattle.nl_iface.specs.declared.counts.Counts.{Ghosts}
-use Rattle.nl_inode.specs.FreeLaws.{NodesAreFree, PoolIsFree, Uses}
+use Rattle.nl_inode.specs.FreeLaws.{NodesAreFree, PoolIsFree, UsesAddress}
 use Rattle.nl_inode.specs.Nodes.{Spaces}
 use Rattle.nl_journal.specs.Progress.{HasNumber, Progress, begun, raised}
 use Rattle.nl_meta.specs.Committed.{VirtualMap}
@@ -31,14 +31,14 @@ use Rattle.nl_journal_commit.specs.Holding.{running_holders}
 use Rattle.nl_journal_commit.specs.Standing.{IsJournaled}
 use Rattle.nl_journal_commit.proofs.Standing.{super_page_stands}
 use Rattle.nl_spec_commits.specs.Held.{IsHeldVolume}
-use Rattle.nl_spec_commits.specs.SettlingLaws.{IsTold}
+use Rattle.nl_spec_commits.specs.SettlingLaws.{JournalIsObservable}
 use Rattle.nl_spec_commits.specs.Standing.{IsFirm}
 use Rattle.nl_spec_commits.proofs.Freezing.{super_pages_hold}
 use Rattle.nl_spec_commits.proofs.Holding.{commit_keeps_held}
 use Rattle.nl_spec_commits.proofs.Kept.{tagged_same}
-use Rattle.nl_spec_commits.specs.TreeLaws.{moment_of}
-use Rattle.nl_core.specs.Core.{CanWrite, HasFree, HasSpace, IsCore, IsPhysical, begun_of, names_of, running_of}
-use Rattle.nl_core.specs.Goes.{Stops}
+use Rattle.nl_spec_commits.specs.TreeLaws.{last_commit_moment}
+use Rattle.nl_core.specs.Core.{CanWrite, FreeAreUnused, HasSpace, IsCore, IsPhysical, begun_of, names_of, running_of}
+use Rattle.nl_core.specs.Goes.{TurnsReadOnly}
 use Rattle.nl_core.specs.Writing.{WritesAll, counted_pages, stopped_by, stopped_on, stored_count}
 use Rattle.nl_core.specs.declared.state.Core.{Core}
 
@@ -78,7 +78,7 @@ module _ {D : Type 0} (g : Ghosts D) (v w : Core D) (is : w.stopped ≡ stopped_
   pub none_failed_on : w.stopped ≡ 0 → NoWriteFailed g v.device w.device
   none_failed_on none = not_rose v.stopped (g.read_faults w.device) (g.write_faults v.device) (g.write_faults w.device) (sym is ∙ none)
 
-  pub stops_on : Stops g v w
+  pub stops_on : TurnsReadOnly g v w
   stops_on = record {
     stands = λ off. ⊎_elim (λ both. absurd (off both.0)) (λ same. is ∙ same) (stopped_cases v.stopped (g.read_faults w.device) (g.write_faults v.device) (g.write_faults w.device));
     none = none_failed_on;
@@ -107,15 +107,15 @@ module _ (shape : Shape) (old new : VirtualMap) (volume : IsVolumeShape shape) (
         (λ is uses. k.0 is (uses_from a uses), λ none. k.1 (λ uses. none (uses_to a uses)));
   }
     where
-      uses_from : (a : ℕ) → Uses shape new a → Uses shape old a
+      uses_from : (a : ℕ) → UsesAddress shape new a → UsesAddress shape old a
       uses_from a u = (u.0, u.1, record { rec = u.2.rec; is_node = node-from shape (bounds-of shape volume) old new same u.0 u.2.rec u.2.is_node; in_slot = u.2.in_slot; not_zero = u.2.not_zero })
 
-      uses_to : (a : ℕ) → Uses shape old a → Uses shape new a
+      uses_to : (a : ℕ) → UsesAddress shape old a → UsesAddress shape new a
       uses_to a u = (u.0, u.1, record { rec = u.2.rec; is_node = node-to shape (bounds-of shape volume) old new same u.0 u.2.rec u.2.is_node; in_slot = u.2.in_slot; not_zero = u.2.not_zero })
 
 module _ {D : Type 0} (g : Ghosts D) (v w : Core D) (same_shape : g.shape w.device ≡ g.shape v.device) (volume : IsVolumeShape (g.shape v.device))
     (same : (u : ℕ) → IsNeeded (g.shape v.device) (running_of g v) u → running_of g w u ≡ running_of g v u) where
-  pub has_free_on : w.nodes ≡ v.nodes → HasFree g v → HasFree g w
+  pub has_free_on : w.nodes ≡ v.nodes → FreeAreUnused g v → FreeAreUnused g w
   has_free_on nodes f = record {
     count_nodes = ap (λ (s : Spaces). length s.nodes) nodes ∙ f.count_nodes ∙ ap (λ (h : Shape). h.nodes) (sym same_shape);
     count_pool = ap (λ (s : Spaces). length s.pool) nodes ∙ f.count_pool ∙ ap (λ (h : Shape). h.meta) (sym same_shape);
@@ -184,7 +184,7 @@ module _ {D : Type 0} (g : Ghosts D) (v w : Core D) (answer : VirtualWrite) (b :
       omega (arith, first, second, starts, before, most))
       b.commits.parts.second
 
-  still_marked : MarkedTo (names_of g w) (begun_of w + 1)
+  still_marked : HandledUpTo (names_of g w) (begun_of w + 1)
   still_marked c n has at =
       let t = b.passes.named.tables in
       let old = core.marked c n (subst (λ (cs : List Callback). Has cs c) t.pending has) (sym (t.handled c.number) ∙ at) in
@@ -194,7 +194,7 @@ module _ {D : Type 0} (g : Ghosts D) (v w : Core D) (answer : VirtualWrite) (b :
   pub not_failed : w.stopped ≡ 0 → NoWriteFailed g v.device w.device
   not_failed = none_failed_on g v w b.stopped b.faults.reads_never_fall b.faults.writes_never_fall
 
-  still_firm : w.stopped ≡ 0 → IsTold g w.journal w.meta → IsFirm g w.device
+  still_firm : w.stopped ≡ 0 → JournalIsObservable g w.journal w.meta → IsFirm g w.device
   still_firm none told =
       let old_numbers : HasNumber v.journal (length v.meta.frozen.addresses) = let later = later_number in let small = told.1 in omega (arith, later, small) in
       let f = (core.writes writes).firm (told.0, old_numbers) in
@@ -260,7 +260,7 @@ module _ {D : Type 0} (g : Ghosts D) (v w : Core D) (answer : VirtualWrite) (b :
   }
     where
       moment_in : (before : ℕ) (earlier decided : Option ℕ) → before ≤ g.clock w.device → IfSome earlier (EarlierAt g v.device w.device v.journal w.journal pages_counted w.meta)
-          → IfSome decided (ChangesAt g v.device w.device v.journal w.journal pages_counted w.meta) → moment_of before earlier decided ≤ g.clock w.device
+          → IfSome decided (ChangesAt g v.device w.device v.journal w.journal pages_counted w.meta) → last_commit_moment before earlier decided ≤ g.clock w.device
       moment_in before earlier (Some m) low e d = d.to
       moment_in before (Some m) None low e d = e.to
       moment_in before None None low e d = low

@@ -13,7 +13,7 @@ use Rattle.nl_field.specs.declared.shape.Shape.{Shape}
 use Rattle.nl_field.specs.declared.super_page.SuperRec.{SuperRec}
 use Rattle.nl_flight.specs.Flight.{carried}
 use Rattle.nl_core_callbacks.specs.Handled.{nameless_body}
-use Rattle.nl_iface.specs.Calls.{Leaves, StoresPages}
+use Rattle.nl_iface.specs.Calls.{CrashStatesHave, StoresPages}
 use Rattle.nl_iface.specs.Device.{IsVolumeShape}
 use Rattle.nl_iface.specs.declared.counts.Counts.{Ghosts}
 use Rattle.nl_journal.specs.Committing.{committed_on, finished, finished_on}
@@ -29,18 +29,18 @@ use Rattle.nl_meta.specs.Nodes.{super_of_pages}
 use Rattle.nl_meta.specs.Pages.{Frozen, IsPages, Pages, frozen_at}
 use Rattle.nl_meta.proofs.Lists.{some_in}
 use Rattle.nl_journal_commit.specs.Committing.{ChangesAt, CommitsInParts, EarlierAt}
-use Rattle.nl_journal_commit.specs.Completing.{IsDecided, IsOpen}
+use Rattle.nl_journal_commit.specs.Completing.{IsDecided, AwaitsCommitPage}
 use Rattle.nl_journal_commit.specs.Counting.{with_count}
 use Rattle.nl_journal_commit.proofs.Places.{at_place}
 use Rattle.nl_spec_commits.specs.Committed.{read_as}
-use Rattle.nl_spec_commits.specs.TreeLaws.{OpensFrom, committed_by as tree_by, moment_of}
-use Rattle.nl_spec_commits.specs.Trees.{Prefix, StandsFor, Trees, prefixes}
+use Rattle.nl_spec_commits.specs.TreeLaws.{OpensFrom, committed_by as tree_by, last_commit_moment}
+use Rattle.nl_spec_commits.specs.Trees.{Prefix, RepresentsTrees, Trees, prefixes}
 use Rattle.nl_tree.specs.Tree.{Tree}
 use Rattle.nl_spec_commits.proofs.CommitTrees.{commit_goes, commit_leaves}
 use Rattle.nl_spec_commits.proofs.Reading.{reads_some}
 use Rattle.nl_core.specs.Core.{IsCore, begun_of}
-use Rattle.nl_core.specs.Goes.{Goes, GoesTo}
-use Rattle.nl_core.specs.Trees.{CoreRuns, CoreStands, IsTold}
+use Rattle.nl_core.specs.Goes.{PreservesVolume, PreservesTrees}
+use Rattle.nl_core.specs.Trees.{CoreRepresentsTree, CoreRepresents, CoreIsObservable}
 use Rattle.nl_core.specs.Writing.{WritesAll, committed_count, counted_pages, frozen_count, stored_count}
 use Rattle.nl_core.specs.declared.state.Core.{Core}
 use Rattle.nl_core.proofs.Running.{runs_on, with_none}
@@ -58,7 +58,7 @@ super_at : (pages : VirtualMap) (bytes : Option (List ℕ)) → pages 0 ≡ byte
 unfolding super_of_pages
 super_at pages bytes is = ap (option_and_then super_of) is
 
-module _ {D : Type 0} (g : Ghosts D) (v : Core D) (page_of_stamp : ℕ → Option PageOfStamp) (t : Trees) (held : IsPages v.meta) (at : CoreStands g v page_of_stamp t) (more : IsOpen v.journal v.meta.frozen) where
+module _ {D : Type 0} (g : Ghosts D) (v : Core D) (page_of_stamp : ℕ → Option PageOfStamp) (t : Trees) (held : IsPages v.meta) (at : CoreRepresents g v page_of_stamp t) (more : AwaitsCommitPage v.journal v.meta.frozen) where
   abbrev pub shape : Shape
   shape = g.shape v.device
 
@@ -97,17 +97,17 @@ module _ {D : Type 0} (g : Ghosts D) (v : Core D) (page_of_stamp : ℕ → Optio
 
 module _ {D : Type 0} (g : Ghosts D) (v w : Core D) (answer : VirtualWrite) (b : WritesAll g v w answer) (core : IsCore g v) (volume : IsVolumeShape (g.shape v.device)) (few : begun_of v ≤ 2 ^ 63)
     (stores : g.tells → StoresPages g w.device) (writes : v.stopped ≡ 0) (held : IsPages v.meta) where
-  small : IsTold g w → v.count < 2 ^ 63
+  small : CoreIsObservable g w → v.count < 2 ^ 63
   small told = subst (λ n. n < 9223372036854775808) b.rest.count told.calls
 
-  numbers : IsTold g w → HasNumber v.journal (length v.meta.frozen.addresses)
+  numbers : CoreIsObservable g w → HasNumber v.journal (length v.meta.frozen.addresses)
   numbers told = let later = later_number g v w answer b core volume few stores writes in let s = told.numbers in omega (arith, later, s)
 
-  counted_is : IsTold g w → counted_pages v ≡ with_count (g.shape v.device) v.count v.meta
+  counted_is : CoreIsObservable g w → counted_pages v ≡ with_count (g.shape v.device) v.count v.meta
   counted_is told = ap (λ (h : Shape). with_count h (stored_count v) v.meta) core.shape ∙ ap (λ n. with_count (g.shape v.device) n v.meta) (let s = small told in omega (arith, s))
 
   -- the count of what is committed
-  count_is : (page_of_stamp : ℕ → Option PageOfStamp) (t : Trees) → CoreStands g v page_of_stamp t → (earlier decided : Option ℕ) → IsDecided earlier v.journal b.commits.parts.halfway v.meta.frozen b.commits.parts.rest.frozen
+  count_is : (page_of_stamp : ℕ → Option PageOfStamp) (t : Trees) → CoreRepresents g v page_of_stamp t → (earlier decided : Option ℕ) → IsDecided earlier v.journal b.commits.parts.halfway v.meta.frozen b.commits.parts.rest.frozen
       → (tree_by v.count earlier decided t).0 ≡ committed_count v earlier decided
   count_is page_of_stamp t at earlier (Some m) is = refl
   count_is page_of_stamp t at (Some m) None is = sym (frozen_count_is g v page_of_stamp t held at is.0)
@@ -124,13 +124,13 @@ module _ {D : Type 0} (g : Ghosts D) (v w : Core D) (answer : VirtualWrite) (b :
   later_tree t one two None None = omega arith
 
   -- no page is programmed under a name
-  runs_to : g.tells → (page_of_stamp : ℕ → Option PageOfStamp) (tree : Tree) → CoreRuns g v page_of_stamp tree → CoreRuns g w page_of_stamp tree
+  runs_to : g.tells → (page_of_stamp : ℕ → Option PageOfStamp) (tree : Tree) → CoreRepresentsTree g v page_of_stamp tree → CoreRepresentsTree g w page_of_stamp tree
   runs_to tells page_of_stamp tree at =
       let named = b.passes.named in
       runs_on g v w page_of_stamp tree at named.same_shape b.stands.needed
       (record { live = λ q page is. (q, sym (named.tables.live q) ∙ is, named.bytes tells q); stamps = b.passes.stamps.never_falls })
 
-  goes_to : IsTold g w → (page_of_stamp : ℕ → Option PageOfStamp) (t : Trees) → CoreStands g v page_of_stamp t → GoesTo g v w page_of_stamp t
+  goes_to : CoreIsObservable g w → (page_of_stamp : ℕ → Option PageOfStamp) (t : Trees) → CoreRepresents g v page_of_stamp t → PreservesTrees g v w page_of_stamp t
   goes_to told page_of_stamp t at =
       let parts : CommitsInParts g (answer ≡ write.Done) b.earlier b.decided v.device v.journal (with_count (g.shape v.device) v.count v.meta) w.device w.journal w.meta =
       subst (λ (n : Pages). CommitsInParts g (answer ≡ write.Done) b.earlier b.decided v.device v.journal n w.device w.journal w.meta) (counted_is told) b.commits.parts in
@@ -139,8 +139,8 @@ module _ {D : Type 0} (g : Ghosts D) (v w : Core D) (answer : VirtualWrite) (b :
         pages = page_of_stamp;
         trees = c.trees;
         stands = record {
-          stands = subst (λ n. StandsFor g w.device w.journal w.meta n page_of_stamp c.trees) (sym b.rest.count) c.stands;
-          runs = subst (λ (tree : Tree). CoreRuns g w page_of_stamp tree) (sym c.running) (runs_to told.tells page_of_stamp t.running at.runs);
+          stands = subst (λ n. RepresentsTrees g w.device w.journal w.meta n page_of_stamp c.trees) (sym b.rest.count) c.stands;
+          runs = subst (λ (tree : Tree). CoreRepresentsTree g w page_of_stamp tree) (sym c.running) (runs_to told.tells page_of_stamp t.running at.runs);
           committed = ap (λ (x : Prefix). x.0) c.committed ∙ count_is page_of_stamp t at b.earlier b.decided b.commits.parts.first_decided ∙ sym b.committed;
         };
         extends = λ stamp page is. is;
@@ -150,8 +150,8 @@ module _ {D : Type 0} (g : Ghosts D) (v w : Core D) (answer : VirtualWrite) (b :
         later = subst (λ (x : Prefix). t.committed.0 ≤ x.0) (sym c.committed) (later_tree t at.stands.later at.stands.latest b.earlier b.decided);
       }
 
-  leaves_to : IsTold g w → (page_of_stamp : ℕ → Option PageOfStamp) (t : Trees) (y : Prefix) → y.0 ≡ w.committed → CoreStands g v page_of_stamp t
-      → Leaves g (OpensFrom (g.shape v.device) v.count w.moment t y) v.device w.device
+  leaves_to : CoreIsObservable g w → (page_of_stamp : ℕ → Option PageOfStamp) (t : Trees) (y : Prefix) → y.0 ≡ w.committed → CoreRepresents g v page_of_stamp t
+      → CrashStatesHave g (OpensFrom (g.shape v.device) v.count w.moment t y) v.device w.device
   leaves_to told page_of_stamp t y is at =
       let pages = counted_is told in
       let l = commit_leaves g answer v.device w.device v.journal w.journal v.meta w.meta v.count v.moment page_of_stamp t b.earlier b.decided (carried v.flight) v.freeing.items volume told.tells (numbers told) told.numbers
@@ -168,12 +168,12 @@ module _ {D : Type 0} (g : Ghosts D) (v w : Core D) (answer : VirtualWrite) (b :
       }
 
   moment_by : (earlier decided : Option ℕ) → IfSome earlier (EarlierAt g v.device w.device v.journal w.journal (counted_pages v) w.meta) → IfSome decided (ChangesAt g v.device w.device v.journal w.journal (counted_pages v) w.meta)
-      → ((moment_of v.moment earlier decided ≡ v.moment) × (committed_count v earlier decided ≡ v.committed)) ⊎ (Earlier (g.clock v.device) (moment_of v.moment earlier decided) × (g.clock v.device ≤ moment_of v.moment earlier decided))
+      → ((last_commit_moment v.moment earlier decided ≡ v.moment) × (committed_count v earlier decided ≡ v.committed)) ⊎ (Earlier (g.clock v.device) (last_commit_moment v.moment earlier decided) × (g.clock v.device ≤ last_commit_moment v.moment earlier decided))
   moment_by earlier (Some m) e d = inr (d.later, d.from)
   moment_by (Some m) None e d = inr (e.later, e.from)
   moment_by None None e d = inl (refl, refl)
 
-  pub written_goes : Goes g 512 v w
+  pub written_goes : PreservesVolume g 512 v w
   written_goes = record {
     same_shape = b.passes.named.same_shape;
     count = b.rest.count;

@@ -13,8 +13,8 @@ use Rattle.nl_core.specs.Core.{begun_of, names_of}
 use Rattle.nl_core.specs.declared.state.Core.{Core}
 
 -- a count of failures rose where the call failed
-abbrev pub HasCause : {D : Type 0} → Ghosts D → Type 0 → Core D → Core D → Type 0
-HasCause g failed old new =
+abbrev pub FailureIsCounted : {D : Type 0} → Ghosts D → Type 0 → Core D → Core D → Type 0
+FailureIsCounted g failed old new =
     failed → Rose (g.read_faults old.device) (g.read_faults new.device) ⊎ Rose (g.write_faults old.device) (g.write_faults new.device)
 
 -- the lines in flight are those of before, but for the names of their pages
@@ -46,7 +46,7 @@ pub record CommitsNot {D : Type 0} (g : Ghosts D) (old new : Core D) : Type 0 wh
   pub same_nodes : new.nodes ≡ old.nodes
   pub same_freeing : new.freeing ≡ old.freeing
 
-abbrev pub Commits : {D : Type 0} → Ghosts D → Core D → Core D → Committing → Type 0
-Commits g old new (commits.Done number) = CommitsAll g old new number
-Commits g old new (commits.Lost w f) = CommitsNot g old new × (f ≢ w) × (g.tells → ⊥)
-Commits g old new commits.Fault = CommitsNot g old new
+abbrev pub CommitsByAnswer : {D : Type 0} → Ghosts D → Core D → Core D → Committing → Type 0
+CommitsByAnswer g old new (commits.Done number) = CommitsAll g old new number
+CommitsByAnswer g old new (commits.Lost w f) = CommitsNot g old new × (f ≢ w) × (g.tells → ⊥)
+CommitsByAnswer g old new commits.Fault = CommitsNot g old new

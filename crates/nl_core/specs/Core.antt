@@ -7,7 +7,7 @@ use Rattle.nl_field.specs.declared.pointer.Pointer.{Pointer}
 use Rattle.nl_field.specs.declared.pointer.Tag.{Tag}
 use Rattle.nl_field.specs.declared.shape.Shape.{Shape}
 use Rattle.nl_flight.specs.Flight.{IsFlight, carried}
-use Rattle.nl_spec_holders.specs.Holding.{MarkedTo}
+use Rattle.nl_spec_holders.specs.Holding.{HandledUpTo}
 use Rattle.nl_iface.specs.Holders.{Holders, IsCounted}
 use Rattle.nl_iface.specs.Names.{Has, Names}
 use Rattle.nl_iface.specs.Space.{CanLand}
@@ -19,7 +19,7 @@ use Rattle.nl_meta_running.specs.Running.{running_on}
 use Rattle.nl_journal_commit.specs.Holding.{running_holders}
 use Rattle.nl_journal_commit.specs.Standing.{IsJournaled}
 use Rattle.nl_spec_commits.specs.Held.{IsHeldVolume}
-use Rattle.nl_spec_commits.specs.SettlingLaws.{IsTold}
+use Rattle.nl_spec_commits.specs.SettlingLaws.{JournalIsObservable}
 use Rattle.nl_spec_commits.specs.Standing.{IsFirm}
 use Rattle.nl_core.specs.declared.state.Core.{Core}
 
@@ -42,11 +42,11 @@ holders_of g v = record { running = running_holders g v.device v.meta; flight = 
 pub record CanWrite {D : Type 0} (g : Ghosts D) (v : Core D) : Type 0 where
   pub spare : g.keeps_spare v.device
   pub lands : CanLand (names_of g v).space
-  pub firm : IsTold g v.journal v.meta → IsFirm g v.device
+  pub firm : JournalIsObservable g v.journal v.meta → IsFirm g v.device
   pub counts : g.write_faults v.device < top
 
 -- The free numbers and addresses are those that no used node has.
-pub record HasFree {D : Type 0} (g : Ghosts D) (v : Core D) : Type 0 where
+pub record FreeAreUnused {D : Type 0} (g : Ghosts D) (v : Core D) : Type 0 where
   pub count_nodes : length v.nodes.nodes ≡ (g.shape v.device).nodes
   pub count_pool : length v.nodes.pool ≡ (g.shape v.device).meta
   pub nodes : NodesAreFree (g.shape v.device) (running_of g v) v.nodes
@@ -71,7 +71,7 @@ pub record IsCore {D : Type 0} (g : Ghosts D) (v : Core D) : Type 0 where
   pub shape : v.shape ≡ g.shape v.device
   -- the metadata runs, and its journal is in order
   pub journaled : IsJournaled g v.device v.journal v.meta
-  pub free : HasFree g v
+  pub free : FreeAreUnused g v
   -- each live page is held once, and what is committed keeps its pages
   pub held : IsHeldVolume g v.device v.journal v.meta (carried v.flight) v.freeing.items
   -- the pages in flight have names of the physical segment, and write sequence numbers that are spelled
@@ -80,7 +80,7 @@ pub record IsCore {D : Type 0} (g : Ghosts D) (v : Core D) : Type 0 where
   pub stamped : (x : Tag × Pointer) → Has (carried v.flight) x → IsTrue (is_stamp x.1.stamp)
   pub space : HasSpace g v
   -- callbacks were handled by the next transaction or an earlier one
-  pub marked : MarkedTo (names_of g v) (begun_of v + 1)
+  pub marked : HandledUpTo (names_of g v) (begun_of v + 1)
   pub moment : v.moment ≤ g.clock v.device
   -- until a write fails, the next one can be made
   pub writes : v.stopped ≡ 0 → CanWrite g v

@@ -4,7 +4,7 @@ use Rattle.nl_field.specs.CrashStates.{Earlier, Rose, saturated}
 use Rattle.nl_field.specs.Members.{Has}
 use Rattle.nl_tree.specs.Tree.{Tree}
 use Rattle.nl_core_callbacks.specs.Handled.{SameButNames}
-use Rattle.nl_iface.specs.Calls.{Leaves}
+use Rattle.nl_iface.specs.Calls.{CrashStatesHave}
 use Rattle.nl_iface.specs.declared.counts.Counts.{Ghosts}
 use Rattle.nl_journal.specs.Passes.{StampsRise}
 use Rattle.nl_meta.specs.Consistent.{PageOfStamp}
@@ -14,15 +14,15 @@ use Rattle.nl_spec_commits.specs.DeviceLaws.{Extends}
 use Rattle.nl_spec_commits.specs.TreeLaws.{OpensFrom}
 use Rattle.nl_spec_commits.specs.Trees.{Prefix, Trees, prefixes}
 use Rattle.nl_core.specs.Core.{begun_of, running_of}
-use Rattle.nl_core.specs.Trees.{CoreRuns, CoreStands, IsTold}
+use Rattle.nl_core.specs.Trees.{CoreRepresentsTree, CoreRepresents, CoreIsObservable}
 use Rattle.nl_core.specs.declared.state.Core.{Core}
 
 -- The core stands for the same tree of all calls. What is committed is what was committed before or frozen, or all calls; each page that
 -- was programmed before holds what it held.
-pub record GoesTo {D : Type 0} (g : Ghosts D) (old new : Core D) (page_of_stamp : ℕ → Option PageOfStamp) (t : Trees) : Type 0 where
+pub record PreservesTrees {D : Type 0} (g : Ghosts D) (old new : Core D) (page_of_stamp : ℕ → Option PageOfStamp) (t : Trees) : Type 0 where
   pub pages : ℕ → Option PageOfStamp
   pub trees : Trees
-  pub stands : CoreStands g new pages trees
+  pub stands : CoreRepresents g new pages trees
   pub extends : Extends page_of_stamp pages
   pub running : trees.running ≡ t.running
   pub committed : Has (prefixes old.count t) trees.committed
@@ -30,13 +30,13 @@ pub record GoesTo {D : Type 0} (g : Ghosts D) (old new : Core D) (page_of_stamp 
   pub later : t.committed.0 ≤ trees.committed.0
 
 -- The core runs as the tree, and each page that was programmed before holds what it held.
-pub record RunsOnAs {D : Type 0} (g : Ghosts D) (new : Core D) (page_of_stamp : ℕ → Option PageOfStamp) (tree : Tree) : Type 0 where
+pub record PreservesTree {D : Type 0} (g : Ghosts D) (new : Core D) (page_of_stamp : ℕ → Option PageOfStamp) (tree : Tree) : Type 0 where
   pub pages : ℕ → Option PageOfStamp
   pub extends : Extends page_of_stamp pages
-  pub runs : CoreRuns g new pages tree
+  pub runs : CoreRepresentsTree g new pages tree
 
 -- The volume is read-only from the first write on that failed, under the sum of both fault counts.
-pub record Stops {D : Type 0} (g : Ghosts D) (old new : Core D) : Type 0 where
+pub record TurnsReadOnly {D : Type 0} (g : Ghosts D) (old new : Core D) : Type 0 where
   pub stands : (old.stopped ≡ 0 → ⊥) → new.stopped ≡ old.stopped
   pub none : new.stopped ≡ 0 → Rose (g.write_faults old.device) (g.write_faults new.device) → ⊥
   pub some : old.stopped ≡ 0 → (new.stopped ≡ 0 → ⊥)
@@ -53,7 +53,7 @@ PaidSince g clock number v = NumberPaid clock number (g.clock v.device) v.journa
 -- changes with a commit page that was finished since. Where the medium tells its contents, it runs on as the tree as which it ran. Where
 -- counts have not ended either, it goes on to stand for the trees for which it stood, and what a stop leaves opens as one of them, from the
 -- moment of the last commit page on as none earlier than what that one committed.
-pub record Goes {D : Type 0} (g : Ghosts D) (most : ℕ) (old new : Core D) : Type 0 where
+pub record PreservesVolume {D : Type 0} (g : Ghosts D) (most : ℕ) (old new : Core D) : Type 0 where
   pub same_shape : g.shape new.device ≡ g.shape old.device
   pub count : new.count ≡ old.count
   pub nodes : SameButNames (graph_of (g.shape old.device) (running_of g old)) (graph_of (g.shape new.device) (running_of g new))
@@ -64,12 +64,12 @@ pub record Goes {D : Type 0} (g : Ghosts D) (most : ℕ) (old new : Core D) : Ty
   pub clock : g.clock old.device ≤ g.clock new.device
   pub moment : ((new.moment ≡ old.moment) × (new.committed ≡ old.committed))
       ⊎ (Earlier (g.clock old.device) new.moment × (g.clock old.device ≤ new.moment))
-  pub stops : Stops g old new
+  pub stops : TurnsReadOnly g old new
   pub stamps : StampsRise g most old.device new.device
-  pub runs : g.tells → (page_of_stamp : ℕ → Option PageOfStamp) (tree : Tree) → CoreRuns g old page_of_stamp tree
-      → RunsOnAs g new page_of_stamp tree
-  pub trees : IsTold g new → (page_of_stamp : ℕ → Option PageOfStamp) (t : Trees) → CoreStands g old page_of_stamp t
-      → GoesTo g old new page_of_stamp t
-  pub left : IsTold g new → (page_of_stamp : ℕ → Option PageOfStamp) (t : Trees) (y : Prefix) → y.0 ≡ new.committed
-      → CoreStands g old page_of_stamp t
-      → Leaves g (OpensFrom (g.shape old.device) old.count new.moment t y) old.device new.device
+  pub runs : g.tells → (page_of_stamp : ℕ → Option PageOfStamp) (tree : Tree) → CoreRepresentsTree g old page_of_stamp tree
+      → PreservesTree g new page_of_stamp tree
+  pub trees : CoreIsObservable g new → (page_of_stamp : ℕ → Option PageOfStamp) (t : Trees) → CoreRepresents g old page_of_stamp t
+      → PreservesTrees g old new page_of_stamp t
+  pub left : CoreIsObservable g new → (page_of_stamp : ℕ → Option PageOfStamp) (t : Trees) (y : Prefix) → y.0 ≡ new.committed
+      → CoreRepresents g old page_of_stamp t
+      → CrashStatesHave g (OpensFrom (g.shape old.device) old.count new.moment t y) old.device new.device

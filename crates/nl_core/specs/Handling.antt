@@ -6,13 +6,13 @@ use Rattle.nl_core_callbacks.specs.Blocked.{IsBlocked, drained_stop}
 use Rattle.nl_core_callbacks.specs.Handled.{HandlesSome, Volume, volume}
 use Rattle.nl_core_callbacks.specs.declared.draining.Drained.{Drained}
 use Rattle.nl_core_callbacks.specs.declared.draining.Drained.TheVariants as drained
-use Rattle.nl_iface.specs.Moves.{IsUnhandled, Marks}
+use Rattle.nl_iface.specs.Moves.{IsUnhandled, MarksHandled}
 use Rattle.nl_iface.specs.Names.{Has, Names}
 use Rattle.nl_iface.specs.Rounds.{Empties}
 use Rattle.nl_iface.specs.declared.Callback.{Callback}
 use Rattle.nl_iface.specs.declared.counts.Counts.{Ghosts}
-use Rattle.nl_meta_running.specs.Reading.{Reads}
-use Rattle.nl_meta_running.specs.Running.{Runs}
+use Rattle.nl_meta_running.specs.Reading.{ReadsExplainStop}
+use Rattle.nl_meta_running.specs.Running.{RunningIsRight}
 use Rattle.nl_core.specs.Core.{names_of}
 use Rattle.nl_core.specs.declared.state.Core.{Core}
 
@@ -21,26 +21,26 @@ abbrev pub volume_of : {D : Type 0} → Core D → Volume D
 volume_of v = volume v.device v.meta v.flight v.freeing.items
 
 -- a callback of this number is pending
-abbrev pub IsPending : Names → ℕ → Type 0
-IsPending names number = (c : Callback) × Has names.pending c × (c.number ≡ number)
+abbrev pub CallbackIsPending : Names → ℕ → Type 0
+CallbackIsPending names number = (c : Callback) × Has names.pending c × (c.number ≡ number)
 
 -- ---- one try
 
 -- Where a try was done, the callback counts as handled by this transaction, or by the earlier one that it had. Else no name changed, and
 -- there is `NoRoom` only where the metadata has the pointer in a page that cannot be made dirty.
 pub record TriesCallback {D : Type 0} (g : Ghosts D) (mark : ℕ) (old new : Core D) (c : Callback) (answer : Drained) : Type 0 where
-  pub done : answer ≡ drained.Done → Marks c mark (names_of g old) (names_of g new)
+  pub done : answer ≡ drained.Done → MarksHandled c mark (names_of g old) (names_of g new)
   pub same : (answer ≡ drained.Done → ⊥) → (names_of g new ≡ names_of g old) × (new.meta.dirty ≡ old.meta.dirty)
   pub no_room : answer ≡ drained.NoRoom → IsBlocked g (volume_of new) c
 
 -- The pending callback of the number was tried; or there is none, and all is as before.
 pub record TriesNumber {D : Type 0} (g : Ghosts D) (mark number : ℕ) (old new : Core D) (answer : Option Drained) : Type 0 where
   pub others : new ≡ record old { device = new.device; meta = new.meta; flight = new.flight; freeing = new.freeing }
-  pub runs : Runs g new.device new.meta
+  pub runs : RunningIsRight g new.device new.meta
   pub handles : HandlesSome g mark (volume_of old) (volume_of new)
   pub room : new.freeing.room ≡ old.freeing.room
-  pub reads : Reads g old.device new.device (option_and_then drained_stop answer)
-  pub none : IfNone answer ((IsPending (names_of g old) number → ⊥) × (new ≡ old))
+  pub reads : ReadsExplainStop g old.device new.device (option_and_then drained_stop answer)
+  pub none : IfNone answer ((CallbackIsPending (names_of g old) number → ⊥) × (new ≡ old))
   pub some : IfSome answer (λ d. (c : Callback) × Has (names_of g old).pending c × (c.number ≡ number) × TriesCallback g mark old new c d)
 
 -- ---- the whole call
@@ -70,8 +70,8 @@ duty_of (Some drained.Fault) = duty.Fault
 duty_of (Some (drained.Lost w f)) = duty.Lost w f
 
 -- `Nothing` exactly where no callback of the number is pending; then all is as before.
-abbrev pub Handles : {D : Type 0} → Ghosts D → ℕ → Core D → Core D → DutyAnswer → Type 0
-Handles g number old new duty.Did = IsPending (names_of g old) number × HandlesNumber g number old new
-Handles g number old new duty.Nothing = (IsPending (names_of g old) number → ⊥) × (new ≡ old)
-Handles g number old new duty.Fault = IsPending (names_of g old) number
-Handles g number old new (duty.Lost w f) = IsPending (names_of g old) number × (f ≡ w → ⊥) × (g.tells → ⊥)
+abbrev pub HandlesCallback : {D : Type 0} → Ghosts D → ℕ → Core D → Core D → DutyAnswer → Type 0
+HandlesCallback g number old new duty.Did = CallbackIsPending (names_of g old) number × HandlesNumber g number old new
+HandlesCallback g number old new duty.Nothing = (CallbackIsPending (names_of g old) number → ⊥) × (new ≡ old)
+HandlesCallback g number old new duty.Fault = CallbackIsPending (names_of g old) number
+HandlesCallback g number old new (duty.Lost w f) = CallbackIsPending (names_of g old) number × (f ≡ w → ⊥) × (g.tells → ⊥)

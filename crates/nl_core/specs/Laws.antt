@@ -13,16 +13,16 @@ use Rattle.nl_meta.specs.Committed.{VirtualMap}
 use Rattle.nl_meta.specs.Consistent.{PageOfStamp}
 use Rattle.nl_meta.specs.Nodes.{graph_of, is_physical_name}
 use Rattle.nl_meta.specs.PointerLists.{tagged_in}
-use Rattle.nl_spec_commits.specs.Trees.{OpensAs, Trees}
+use Rattle.nl_spec_commits.specs.Trees.{StoredOpensAs, Trees}
 use Rattle.nl_core.specs.Core.{names_of}
-use Rattle.nl_core.specs.Trees.{CoreStands, IsTold}
+use Rattle.nl_core.specs.Trees.{CoreRepresents, CoreIsObservable}
 use Rattle.nl_core.specs.declared.state.Core.{Core}
 
 -- What is stored now opens as the committed tree.
 abbrev pub StoredOpens : {D : Type 0} → Ghosts D → Core D → Type 0
 StoredOpens g v =
-    IsTold g v → (page_of_stamp : ℕ → Option PageOfStamp) (t : Trees) → CoreStands g v page_of_stamp t
-    → OpensAs (g.shape v.device) (stored g v.device) t.committed
+    CoreIsObservable g v → (page_of_stamp : ℕ → Option PageOfStamp) (t : Trees) → CoreRepresents g v page_of_stamp t
+    → StoredOpensAs (g.shape v.device) (stored g v.device) t.committed
 
 -- A page in flight is live where its pointer leads, under its owner and its write sequence number, which was given. The pointer has a
 -- spelling: its number, and a name of the physical segment.

@@ -7,7 +7,7 @@ use Rattle.nl_field.specs.declared.pointer.Tag.{Tag}
 use Rattle.nl_core_callbacks.specs.Handled.{nameless_line}
 use Rattle.nl_flight.specs.Flight.{InFlight, begun, carried, of_worker, with_line}
 use Rattle.nl_iface.specs.Answers.{IfPlaced, IfRefused, IsPlaced, IsTriedNamed}
-use Rattle.nl_iface.specs.Calls.{KeepsPages, LeavesNew, OnlyReads, Places, PlacesNone, TakesStamp, TriesCounted}
+use Rattle.nl_iface.specs.Calls.{KeepsPages, LeavesNew, OnlyReads, PlacesNewPage, PlacesNone, TakesStamp, TriesCounted}
 use Rattle.nl_iface.specs.Names.{Has}
 use Rattle.nl_iface.specs.Space.{NoneRetired}
 use Rattle.nl_iface.specs.declared.counts.Counts.{Ghosts}
@@ -18,8 +18,8 @@ use Rattle.nl_core.specs.declared.programming.Programmed.TheVariants as programm
 use Rattle.nl_core.specs.declared.state.Core.{Core}
 
 -- the worker's line is this one, or it has none
-abbrev pub HasLine : List InFlight → ℕ → ℕ → Type 0
-HasLine flight worker line = ((of_worker flight worker).line ≡ 0) ⊎ ((of_worker flight worker).line ≡ line)
+abbrev pub HasLineOrNone : List InFlight → ℕ → ℕ → Type 0
+HasLineOrNone flight worker line = ((of_worker flight worker).line ≡ 0) ⊎ ((of_worker flight worker).line ≡ line)
 
 -- the worker's line, which begins where it has none
 abbrev pub line_of : List InFlight → ℕ → ℕ → InFlight
@@ -33,10 +33,10 @@ abbrev pub with_page : List InFlight → ℕ → ℕ → Tag → Pointer → Lis
 with_page flight worker line tag at = with_line flight worker (behind (line_of flight worker line) tag at)
 
 -- A page is programmed under a new name, or not: what a device tells of that.
-pub record Programs {D : Type 0} (g : Ghosts D) (tag : Tag) (main : List ℕ) (answer : Named) (old new : D) : Type 0 where
+pub record ProgramsNewName {D : Type 0} (g : Ghosts D) (tag : Tag) (main : List ℕ) (answer : Named) (old new : D) : Type 0 where
   pub not_live : answer ≡ named.NotLive → ⊥
   pub no_page : answer ≡ named.NoPage ↔ ((g.names old).space.room ≡ 0)
-  pub placed : IfPlaced answer (Places g tag main 0 (g.names old) old new)
+  pub placed : IfPlaced answer (PlacesNewPage g tag main 0 (g.names old) old new)
   pub none : (IsPlaced answer → ⊥) → PlacesNone g answer old new
   pub refused : IfRefused answer (OnlyReads g old new)
   pub left : g.tells → LeavesNew g tag main answer old new
@@ -48,7 +48,7 @@ pub record Programs {D : Type 0} (g : Ghosts D) (tag : Tag) (main : List ℕ) (a
 -- The page is placed under the pointer, and in flight behind the others of the worker's line.
 pub record PutsPage {D : Type 0} (g : Ghosts D) (worker line : ℕ) (tag : Tag) (main : List ℕ) (old new : Core D)
     (at : Pointer) : Type 0 where
-  pub places : Places g tag main 0 (names_of g old) old.device new.device at
+  pub places : PlacesNewPage g tag main 0 (names_of g old) old.device new.device at
   pub flight : new.flight ≡ with_page old.flight worker line tag at
   pub others : new ≡ record old { device = new.device; flight = new.flight; stopped = new.stopped }
 

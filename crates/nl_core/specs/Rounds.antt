@@ -2,7 +2,7 @@
 use Rattle.std.specs.Prelude.{◌≡◌, ◌≢◌, ◌⊎◌, ◌≤◌, ⊤, []}
 use Rattle.nl_core_clean.specs.declared.cleaning.Cleaned.TheVariants as cleaned
 use Rattle.nl_core_callbacks.specs.Handled.{AllHandled}
-use Rattle.nl_iface.specs.Rounds.{Empties, Gains, IsRound}
+use Rattle.nl_iface.specs.Rounds.{Empties, GainsByPass, IsReclaimPass}
 use Rattle.nl_iface.specs.declared.counts.Counts.{Ghosts}
 use Rattle.nl_iface.specs.declared.moving_pages.MovingPages.{Ghosts as Moving}
 use Rattle.nl_core.specs.Cleaning.{CleansDevice}
@@ -32,12 +32,12 @@ CleansOne g m old new =
 -- The table of old names was emptied, and one victim cleaned, where there was one. Such a round gives a Free block more than are kept for
 -- the cleaner, or finishes a victim that was in hand, or brings more pages within reach. No victim is in hand afterwards, and no page
 -- awaits its free.
-pub record RoundIsDone {D : Type 0} (g : Ghosts D) (m : Moving D) (old new : Core D) : Type 0 where
+pub record ReclaimPassIsDone {D : Type 0} (g : Ghosts D) (m : Moving D) (old new : Core D) : Type 0 where
   pub between : Core D
   pub emptied : EmptiesTable g old between
   pub cleans : CleansOne g m between new
-  pub round : IsRound (names_of g old).space (names_of g new).space
-  pub gains : Gains (names_of g old).space (names_of g new).space
+  pub round : IsReclaimPass (names_of g old).space (names_of g new).space
+  pub gains : GainsByPass (names_of g old).space (names_of g new).space
   pub none_in_hand : (names_of g new).space.victim ≡ 0
   pub few_wait : (names_of g new).space.waiting ≤ 1
   pub freed : new.freeing.items ≡ []

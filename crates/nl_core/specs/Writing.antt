@@ -9,17 +9,17 @@ use Rattle.nl_iface.specs.Answers.{LosesStamp}
 use Rattle.nl_iface.specs.Calls.{CallCounted, KeepsMedium}
 use Rattle.nl_iface.specs.Moves.{Acknowledges}
 use Rattle.nl_spec_holders.specs.Laws.{OldNamesDiffer}
-use Rattle.nl_iface.specs.Names.{IsTable}
+use Rattle.nl_iface.specs.Names.{IsTableOfNames}
 use Rattle.nl_iface.specs.declared.counts.Counts.{Ghosts}
 use Rattle.nl_journal.specs.Left.{CommitWrites}
-use Rattle.nl_journal.specs.Passes.{Passes}
+use Rattle.nl_journal.specs.Passes.{ChangesAddressesOnly}
 use Rattle.nl_journal.specs.Progress.{HasNumber}
 use Rattle.nl_meta.specs.Pages.{Pages, frozen_at}
-use Rattle.nl_journal_commit.specs.Committing.{ChangesAt, Commits, EarlierAt}
+use Rattle.nl_journal_commit.specs.Committing.{ChangesAt, CommitsWhole, EarlierAt}
 use Rattle.nl_journal_commit.specs.Counting.{with_count}
 use Rattle.nl_journal_commit.specs.Freeing.{FreesEach}
-use Rattle.nl_journal_commit.specs.Standing.{StandsOn}
-use Rattle.nl_spec_commits.specs.TreeLaws.{moment_of}
+use Rattle.nl_journal_commit.specs.Standing.{PreservesGraph}
+use Rattle.nl_spec_commits.specs.TreeLaws.{last_commit_moment}
 use Rattle.nl_core.specs.Core.{names_of}
 use Rattle.nl_core.specs.declared.state.Core.{Core}
 
@@ -56,7 +56,7 @@ abbrev pub stopped_on : {D : Type 0} → Ghosts D → ℕ → Core D → Core D 
 stopped_on g writes_before old new = stopped_by old.stopped (g.read_faults new.device) writes_before (g.write_faults new.device)
 
 -- all but the device, the journal and the pages in memory, and what is known of the last commit and the first failure
-pub record KeepsRest {D : Type 0} (old new : Core D) : Type 0 where
+pub record KeepsRestOfCore {D : Type 0} (old new : Core D) : Type 0 where
   pub shape : new.shape ≡ old.shape
   pub nodes : new.nodes ≡ old.nodes
   pub flight : new.flight ≡ old.flight
@@ -67,17 +67,17 @@ pub record KeepsRest {D : Type 0} (old new : Core D) : Type 0 where
 pub record WritesAll {D : Type 0} (g : Ghosts D) (old new : Core D) (answer : VirtualWrite) : Type 0 where
   pub earlier : Option ℕ
   pub decided : Option ℕ
-  pub rest : KeepsRest old new
+  pub rest : KeepsRestOfCore old new
   pub committed : new.committed ≡ committed_count old earlier decided
-  pub moment : new.moment ≡ moment_of old.moment earlier decided
+  pub moment : new.moment ≡ last_commit_moment old.moment earlier decided
   pub stopped : new.stopped ≡ stopped_on g (g.write_faults old.device) old new
-  pub stands : StandsOn g old.device old.meta new.device new.journal new.meta
-  pub commits : Commits g (answer ≡ write.Done) earlier decided old.device old.journal (counted_pages old) new.device new.journal new.meta
+  pub stands : PreservesGraph g old.device old.meta new.device new.journal new.meta
+  pub commits : CommitsWhole g (answer ≡ write.Done) earlier decided old.device old.journal (counted_pages old) new.device new.journal new.meta
   pub earlier_at : IfSome earlier (EarlierAt g old.device new.device old.journal new.journal (counted_pages old) new.meta)
   pub decided_at : IfSome decided (ChangesAt g old.device new.device old.journal new.journal (counted_pages old) new.meta)
   pub writes : g.tells → HasNumber new.journal (length new.meta.frozen.addresses)
       → CommitWrites g (answer ≡ write.Done) old.journal new.journal (counted_pages old) new.meta old.device new.device
-  pub passes : Passes g (answer ≡ write.Done) 512 old.device new.device
+  pub passes : ChangesAddressesOnly g (answer ≡ write.Done) 512 old.device new.device
   pub lost : LosesStamp g.tells (g.stamps new.device) answer
   pub clock : g.clock old.device ≤ g.clock new.device
   pub faults : CallCounted g (answer ≡ write.Fault) old.device new.device
@@ -96,5 +96,5 @@ pub record Settles {D : Type 0} (g : Ghosts D) (mark : ℕ) (old new : Core D) :
 
 -- The tables of a device before it: old names and callbacks are in order, and no old name stands twice.
 pub record HasTable {D : Type 0} (g : Ghosts D) (s : D) : Type 0 where
-  pub table : IsTable (g.names s)
+  pub table : IsTableOfNames (g.names s)
   pub differ : OldNamesDiffer (g.names s)

@@ -1,8 +1,8 @@
 //! One victim of a core's device is cleaned.
 ghost use Rattle.std.specs.Prelude.{◌≡◌};
-ghost use Rattle.nl_core.specs.Calls.{HasCause};
+ghost use Rattle.nl_core.specs.Calls.{FailureIsCounted};
 ghost use Rattle.nl_core.specs.Core.{IsCore};
-ghost use Rattle.nl_core.specs.Goes.{Goes};
+ghost use Rattle.nl_core.specs.Goes.{PreservesVolume};
 ghost use Rattle.nl_core.specs.Cleaning.{CleansDevice};
 
 use crate::state::Core;
@@ -17,9 +17,9 @@ impl<D: MovingPages> Core<D> {
         requires core { IsCore D.Counts self.old }
         requires writes { self.old.stopped ≡ 0 }
         ensures core { IsCore D.Counts self.new }
-        ensures goes { Goes D.Counts 0 self.old self.new }
+        ensures goes { PreservesVolume D.Counts 0 self.old self.new }
         ensures cleans { CleansDevice D.Counts D.MovingPages.own self.old self.new result }
-        ensures faults { HasCause D.Counts (result ≡ Cleaned.Fault) self.old self.new }
+        ensures faults { FailureIsCounted D.Counts (result ≡ Cleaned.Fault) self.old self.new }
     {
         let faults = self.device.write_faults();
         device_stands(&self.device);

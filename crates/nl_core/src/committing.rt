@@ -3,12 +3,12 @@ ghost use Rattle.std.specs.Prelude.{◌≡◌, ◌≤◌, ◌+◌, ◌^◌};
 ghost use Rattle.nl_iface.specs.Calls.{StoresPages};
 ghost use Rattle.nl_iface.specs.Device.{IsVolumeShape};
 ghost use Rattle.nl_iface.specs.Names.{IsNames};
-ghost use Rattle.nl_core.specs.Calls.{Commits, HasCause};
+ghost use Rattle.nl_core.specs.Calls.{CommitsByAnswer, FailureIsCounted};
 ghost use Rattle.nl_core.specs.Core.{IsCore};
-ghost use Rattle.nl_core.specs.Goes.{Goes};
+ghost use Rattle.nl_core.specs.Goes.{PreservesVolume};
 ghost use Rattle.nl_meta.specs.Pages.{IsPages};
 ghost use Rattle.nl_core.specs.Writing.{HasTable, Settles, WritesAll, committed_by};
-ghost use Rattle.nl_spec_commits.specs.TreeLaws.{moment_of};
+ghost use Rattle.nl_spec_commits.specs.TreeLaws.{last_commit_moment};
 
 use crate::state::Core;
 use nl_field::VirtualWrite;
@@ -30,9 +30,9 @@ impl<D: MovingPages> Core<D> {
         requires writes { self.old.stopped ≡ 0 }
         requires stamp { D.next_stamp self.old.device + 512 ≤ 2 ^ 63 }
         ensures core { IsCore D.Counts self.new }
-        ensures goes { Goes D.Counts 512 self.old self.new }
-        ensures commits { Commits D.Counts self.old self.new result }
-        ensures faults { HasCause D.Counts (result ≡ Committing.Fault) self.old self.new }
+        ensures goes { PreservesVolume D.Counts 512 self.old self.new }
+        ensures commits { CommitsByAnswer D.Counts self.old self.new result }
+        ensures faults { FailureIsCounted D.Counts (result ≡ Committing.Fault) self.old self.new }
     {
         let mark = self.mark();
         match self.write_all() {
@@ -76,7 +76,7 @@ impl<D: MovingPages> Core<D> {
 
     // The counts and the moments of the commit pages that were finished.
     fn note_moments(&mut self, frozen: u64, done: &Committed)
-        ensures { self.new ≡ record self.old { committed = committed_by self.old.committed frozen self.old.count done.now.earlier done.now.decided; moment = moment_of self.old.moment done.now.earlier done.now.decided } }
+        ensures { self.new ≡ record self.old { committed = committed_by self.old.committed frozen self.old.count done.now.earlier done.now.decided; moment = last_commit_moment self.old.moment done.now.earlier done.now.decided } }
     {
         if let Some(moment) = done.earlier {
             self.committed = frozen;

@@ -5,7 +5,7 @@ ghost use Rattle.nl_iface.specs.Calls.{KeepsMedium};
 ghost use Rattle.nl_journal_commit.specs.Freeing.{FreesEach};
 ghost use Rattle.nl_core.specs.Core.{IsCore};
 ghost use Rattle.nl_core.specs.Dropping.{DropsLine, FreesAt, pointers_of};
-ghost use Rattle.nl_core.specs.Goes.{Goes};
+ghost use Rattle.nl_core.specs.Goes.{PreservesVolume};
 
 use crate::state::Core;
 use nl_flight::Flight;
@@ -18,7 +18,7 @@ impl<D: MovingPages> Core<D> {
         requires core { IsCore D.Counts self.old }
         requires known { worker < 8 }
         ensures core { IsCore D.Counts self.new }
-        ensures goes { Goes D.Counts 0 self.old self.new }
+        ensures goes { PreservesVolume D.Counts 0 self.old self.new }
         ensures dropped { DropsLine D.Counts worker self.old self.new }
     {
         device_stands(&self.device);

@@ -1,9 +1,9 @@
 //! The background tasks of a core.
 ghost use Rattle.std.specs.Prelude.{◌≡◌, ◌↔◌, ◌+◌, ◌≤◌, ◌<◌, ◌^◌, IsTrue, if◌then◌else◌};
-ghost use Rattle.nl_core.specs.Calls.{HasCause, KeepsLines};
+ghost use Rattle.nl_core.specs.Calls.{FailureIsCounted, KeepsLines};
 ghost use Rattle.nl_core.specs.Core.{IsCore};
-ghost use Rattle.nl_core.specs.Duties.{DoesDuty, DoesTask, HasNothingToDo, IsAtRest, duty_of_commit, duty_of_copy, duty_of_erase};
-ghost use Rattle.nl_core.specs.Goes.{Goes};
+ghost use Rattle.nl_core.specs.Duties.{RunsBackgroundTask, DoesTask, HasNothingToDo, IsAtRest, duty_of_commit, duty_of_copy, duty_of_erase};
+ghost use Rattle.nl_core.specs.Goes.{PreservesVolume};
 
 use crate::state::Core;
 use nl_iface::{Copying, Erasing, MovingPages};
@@ -20,11 +20,11 @@ impl<D: MovingPages> Core<D> {
     pub fn duty(&mut self, which: Duty) -> DutyAnswer
         requires core { IsCore D.Counts self.old }
         ensures core { IsCore D.Counts self.new }
-        ensures goes { Goes D.Counts 512 self.old self.new }
-        ensures does { DoesDuty D.Counts D.MovingPages.own which self.old self.new result }
+        ensures goes { PreservesVolume D.Counts 512 self.old self.new }
+        ensures does { RunsBackgroundTask D.Counts D.MovingPages.own which self.old self.new result }
         ensures rests { IsAtRest D.Counts self.old → self.new ≡ self.old }
         ensures lines { KeepsLines self.old self.new }
-        ensures faults { HasCause D.Counts (result ≡ DutyAnswer.Fault) self.old self.new }
+        ensures faults { FailureIsCounted D.Counts (result ≡ DutyAnswer.Fault) self.old self.new }
     {
         if self.is_at_rest() {
             return DutyAnswer::Nothing;
@@ -45,10 +45,10 @@ impl<D: MovingPages> Core<D> {
         requires writes { self.old.stopped ≡ 0 }
         requires stamp { D.next_stamp self.old.device + 512 ≤ 2 ^ 63 }
         ensures core { IsCore D.Counts self.new }
-        ensures goes { Goes D.Counts 512 self.old self.new }
+        ensures goes { PreservesVolume D.Counts 512 self.old self.new }
         ensures does { DoesTask D.Counts D.MovingPages.own which self.old self.new result }
         ensures lines { KeepsLines self.old self.new }
-        ensures faults { HasCause D.Counts (result ≡ DutyAnswer.Fault) self.old self.new }
+        ensures faults { FailureIsCounted D.Counts (result ≡ DutyAnswer.Fault) self.old self.new }
     {
         match which {
             Duty::Copy => self.copy(),
@@ -64,10 +64,10 @@ impl<D: MovingPages> Core<D> {
         requires core { IsCore D.Counts self.old }
         requires writes { self.old.stopped ≡ 0 }
         ensures core { IsCore D.Counts self.new }
-        ensures goes { Goes D.Counts 0 self.old self.new }
+        ensures goes { PreservesVolume D.Counts 0 self.old self.new }
         ensures does { DoesTask D.Counts D.MovingPages.own Duty.Copy self.old self.new result }
         ensures lines { KeepsLines self.old self.new }
-        ensures faults { HasCause D.Counts (result ≡ DutyAnswer.Fault) self.old self.new }
+        ensures faults { FailureIsCounted D.Counts (result ≡ DutyAnswer.Fault) self.old self.new }
     {
         let faults = self.device.write_faults();
         device_stands(&self.device);
@@ -82,10 +82,10 @@ impl<D: MovingPages> Core<D> {
         requires core { IsCore D.Counts self.old }
         requires writes { self.old.stopped ≡ 0 }
         ensures core { IsCore D.Counts self.new }
-        ensures goes { Goes D.Counts 0 self.old self.new }
+        ensures goes { PreservesVolume D.Counts 0 self.old self.new }
         ensures does { DoesTask D.Counts D.MovingPages.own Duty.Erase self.old self.new result }
         ensures lines { KeepsLines self.old self.new }
-        ensures faults { HasCause D.Counts (result ≡ DutyAnswer.Fault) self.old self.new }
+        ensures faults { FailureIsCounted D.Counts (result ≡ DutyAnswer.Fault) self.old self.new }
     {
         let faults = self.device.write_faults();
         device_stands(&self.device);
@@ -101,10 +101,10 @@ impl<D: MovingPages> Core<D> {
         requires writes { self.old.stopped ≡ 0 }
         requires stamp { D.next_stamp self.old.device + 512 ≤ 2 ^ 63 }
         ensures core { IsCore D.Counts self.new }
-        ensures goes { Goes D.Counts 512 self.old self.new }
+        ensures goes { PreservesVolume D.Counts 512 self.old self.new }
         ensures does { DoesTask D.Counts D.MovingPages.own Duty.Commit self.old self.new result }
         ensures lines { KeepsLines self.old self.new }
-        ensures faults { HasCause D.Counts (result ≡ DutyAnswer.Fault) self.old self.new }
+        ensures faults { FailureIsCounted D.Counts (result ≡ DutyAnswer.Fault) self.old self.new }
     {
         if self.is_committed() {
             return DutyAnswer::Nothing;
@@ -125,10 +125,10 @@ impl<D: MovingPages> Core<D> {
         requires core { IsCore D.Counts self.old }
         requires writes { self.old.stopped ≡ 0 }
         ensures core { IsCore D.Counts self.new }
-        ensures goes { Goes D.Counts 0 self.old self.new }
+        ensures goes { PreservesVolume D.Counts 0 self.old self.new }
         ensures does { DoesTask D.Counts D.MovingPages.own Duty.Level self.old self.new result }
         ensures lines { KeepsLines self.old self.new }
-        ensures faults { HasCause D.Counts (result ≡ DutyAnswer.Fault) self.old self.new }
+        ensures faults { FailureIsCounted D.Counts (result ≡ DutyAnswer.Fault) self.old self.new }
     {
         device_stands(&self.device);
         let begun = self.device.level();

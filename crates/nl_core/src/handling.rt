@@ -1,10 +1,10 @@
 //! The callback of a number is handled, with a commit before a second try where there is no room for the first.
 ghost use Rattle.std.specs.Prelude.{◌≡◌, ◌+◌, ◌≤◌, ◌^◌, Some};
-ghost use Rattle.nl_core.specs.Calls.{HasCause, KeepsLines};
+ghost use Rattle.nl_core.specs.Calls.{FailureIsCounted, KeepsLines};
 ghost use Rattle.nl_core.specs.Core.{IsCore, begun_of};
-ghost use Rattle.nl_core.specs.Goes.{Goes};
-ghost use Rattle.nl_core.specs.Handling.{Handles, HandlesWithRoom, TriesNumber, duty_of};
-ghost use Rattle.nl_meta_running.specs.Running.{Runs};
+ghost use Rattle.nl_core.specs.Goes.{PreservesVolume};
+ghost use Rattle.nl_core.specs.Handling.{HandlesCallback, HandlesWithRoom, TriesNumber, duty_of};
+ghost use Rattle.nl_meta_running.specs.Running.{RunningIsRight};
 
 use crate::state::Core;
 use nl_core_callbacks::laws::trees_stay;
@@ -22,10 +22,10 @@ impl<D: MovingPages> Core<D> {
         requires writes { self.old.stopped ≡ 0 }
         requires stamp { D.next_stamp self.old.device + 512 ≤ 2 ^ 63 }
         ensures core { IsCore D.Counts self.new }
-        ensures goes { Goes D.Counts 512 self.old self.new }
-        ensures handles { Handles D.Counts number self.old self.new result }
+        ensures goes { PreservesVolume D.Counts 512 self.old self.new }
+        ensures handles { HandlesCallback D.Counts number self.old self.new result }
         ensures lines { KeepsLines self.old self.new }
-        ensures faults { HasCause D.Counts (result ≡ DutyAnswer.Fault) self.old self.new }
+        ensures faults { FailureIsCounted D.Counts (result ≡ DutyAnswer.Fault) self.old self.new }
     {
         match self.handle_once(number) {
             None => DutyAnswer::Nothing,
@@ -42,10 +42,10 @@ impl<D: MovingPages> Core<D> {
         requires writes { self.old.stopped ≡ 0 }
         requires stamp { D.next_stamp self.old.device + 512 ≤ 2 ^ 63 }
         ensures core { IsCore D.Counts self.new }
-        ensures goes { Goes D.Counts 512 self.old self.new }
+        ensures goes { PreservesVolume D.Counts 512 self.old self.new }
         ensures handles { HandlesWithRoom D.Counts number self.old self.new result }
         ensures lines { KeepsLines self.old self.new }
-        ensures faults { HasCause D.Counts (result ≡ DutyAnswer.Fault) self.old self.new }
+        ensures faults { FailureIsCounted D.Counts (result ≡ DutyAnswer.Fault) self.old self.new }
     {
         match self.commit() {
             Committing::Done(_) => {
@@ -61,9 +61,9 @@ impl<D: MovingPages> Core<D> {
     fn handle_once(&mut self, number: u64) -> Option<Drained>
         requires core { IsCore D.Counts self.old }
         ensures core { IsCore D.Counts self.new }
-        ensures goes { Goes D.Counts 0 self.old self.new }
+        ensures goes { PreservesVolume D.Counts 0 self.old self.new }
         ensures tries { TriesNumber D.Counts (begun_of self.old + 1) number self.old self.new result }
-        ensures faults { HasCause D.Counts (result ≡ Some Drained.Fault) self.old self.new }
+        ensures faults { FailureIsCounted D.Counts (result ≡ Some Drained.Fault) self.old self.new }
     {
         trees_stay();
         device_stands(&self.device);
@@ -76,7 +76,7 @@ impl<D: MovingPages> Core<D> {
     // One try to handle a callback. It only reads, so no write can fail.
     fn try_callback(&mut self, number: u64, mark: u64) -> Option<Drained>
         requires formed { D.formed self.old.device }
-        requires runs { Runs D.Counts self.old.device self.old.meta }
+        requires runs { RunningIsRight D.Counts self.old.device self.old.meta }
         requires shape { self.old.shape ≡ D.shape self.old.device }
         ensures formed { D.formed self.new.device }
         ensures tries { TriesNumber D.Counts mark number self.old self.new result }

@@ -1,14 +1,14 @@
 //! A page is programmed for the line of a worker, and is in flight from then on.
 ghost use Rattle.std.specs.Prelude.{◌≡◌, ◌≢◌, ◌↔◌, ◌⊎◌, ◌+◌, ◌<◌, ◌≤◌, ◌^◌};
-ghost use Rattle.nl_flight.specs.Flight.{HasPlace, IsFlight, with_line};
+ghost use Rattle.nl_flight.specs.Flight.{HasFlightRoom, IsFlight, with_line};
 ghost use Rattle.nl_iface.specs.Answers.{IfPlaced, IsPlaced};
 ghost use Rattle.nl_iface.specs.Calls.{StoresMap, StoresPages};
 ghost use Rattle.nl_iface.specs.Device.{IsVolumeShape};
 ghost use Rattle.nl_iface.specs.Names.{IsNames};
-ghost use Rattle.nl_core.specs.Calls.{HasCause};
+ghost use Rattle.nl_core.specs.Calls.{FailureIsCounted};
 ghost use Rattle.nl_core.specs.Core.{IsCore, names_of};
-ghost use Rattle.nl_core.specs.Goes.{Goes};
-ghost use Rattle.nl_core.specs.Programming.{HasLine, Programs, ProgramsFor, PutsNone, PutsPage, last_stamp, line_of, with_page};
+ghost use Rattle.nl_core.specs.Goes.{PreservesVolume};
+ghost use Rattle.nl_core.specs.Programming.{HasLineOrNone, ProgramsNewName, ProgramsFor, PutsNone, PutsPage, last_stamp, line_of, with_page};
 ghost use Rattle.nl_core.specs.Writing.{stopped_on};
 
 use crate::rounds::Rounded;
@@ -42,13 +42,13 @@ impl<D: MovingPages> Core<D> {
         requires core { IsCore D.Counts self.old }
         requires known { worker < 8 }
         requires some { 0 < line }
-        requires line { HasLine self.old.flight worker line }
-        requires place { HasPlace self.old.flight worker }
+        requires line { HasLineOrNone self.old.flight worker line }
+        requires place { HasFlightRoom self.old.flight worker }
         ensures core { IsCore D.Counts self.new }
-        ensures goes { Goes D.Counts (2 ^ 30) self.old self.new }
+        ensures goes { PreservesVolume D.Counts (2 ^ 30) self.old self.new }
         ensures stopped { result ≡ Programmed.Stopped ↔ (self.old.stopped ≢ 0) ⊎ (last_stamp ≤ D.next_stamp self.old.device) }
         ensures programs { ProgramsFor D.Counts worker line tag from.now.main self.old self.new result }
-        ensures faults { HasCause D.Counts (result ≡ Programmed.Fault) self.old self.new }
+        ensures faults { FailureIsCounted D.Counts (result ≡ Programmed.Fault) self.old self.new }
     {
         if self.stopped != 0 || self.device.next_stamp() >= END {
             return Programmed::Stopped;
@@ -63,13 +63,13 @@ impl<D: MovingPages> Core<D> {
         requires stamp { D.next_stamp self.old.device + 2 ^ 30 ≤ 2 ^ 63 }
         requires known { worker < 8 }
         requires some { 0 < line }
-        requires line { HasLine self.old.flight worker line }
-        requires place { HasPlace self.old.flight worker }
+        requires line { HasLineOrNone self.old.flight worker line }
+        requires place { HasFlightRoom self.old.flight worker }
         ensures core { IsCore D.Counts self.new }
-        ensures goes { Goes D.Counts (2 ^ 30) self.old self.new }
+        ensures goes { PreservesVolume D.Counts (2 ^ 30) self.old self.new }
         ensures runs { result ≢ Programmed.Stopped }
         ensures programs { ProgramsFor D.Counts worker line tag from.now.main self.old self.new result }
-        ensures faults { HasCause D.Counts (result ≡ Programmed.Fault) self.old self.new }
+        ensures faults { FailureIsCounted D.Counts (result ≡ Programmed.Fault) self.old self.new }
     {
         device_stands(&self.device);
         let mut answer = self.place_once(worker, line, tag, from);
@@ -101,14 +101,14 @@ impl<D: MovingPages> Core<D> {
         requires stamp { D.next_stamp self.old.device < 2 ^ 63 }
         requires known { worker < 8 }
         requires some { 0 < line }
-        requires line { HasLine self.old.flight worker line }
-        requires place { HasPlace self.old.flight worker }
+        requires line { HasLineOrNone self.old.flight worker line }
+        requires place { HasFlightRoom self.old.flight worker }
         ensures core { IsCore D.Counts self.new }
-        ensures goes { Goes D.Counts 1 self.old self.new }
+        ensures goes { PreservesVolume D.Counts 1 self.old self.new }
         ensures no_page { result ≡ Named.NoPage ↔ (names_of D.Counts self.old).space.room ≡ 0 }
         ensures placed { IfPlaced result (PutsPage D.Counts worker line tag from.now.main self.old self.new) }
         ensures none { (IsPlaced result → ⊥) → PutsNone D.Counts result self.old self.new }
-        ensures faults { HasCause D.Counts (result ≡ Named.Fault) self.old self.new }
+        ensures faults { FailureIsCounted D.Counts (result ≡ Named.Fault) self.old self.new }
     {
         match self.place(tag, from) {
             Named::Placed(at) => {
@@ -128,7 +128,7 @@ impl<D: MovingPages> Core<D> {
         ensures map { D.tells → StoresMap D.Counts self.old.device }
         ensures numbers { IsNames (D.shape self.old.device) (D.next_stamp self.old.device) (D.names self.old.device) }
         ensures stores { D.tells → StoresPages D.Counts self.new.device }
-        ensures programs { Programs D.Counts tag from.now.main result self.old.device self.new.device }
+        ensures programs { ProgramsNewName D.Counts tag from.now.main result self.old.device self.new.device }
         ensures others { self.new ≡ record self.old { device = self.new.device; stopped = stopped_on D.Counts (D.write_faults self.old.device) self.old self.new } }
     {
         device_stands(&self.device);
@@ -144,7 +144,7 @@ impl<D: MovingPages> Core<D> {
 fn put_page(flight: &mut Flight, worker: u8, line: u32, tag: Tag, at: Pointer)
     requires known { worker < 8 }
     requires some { 0 < line }
-    requires place { HasPlace flight.old worker }
+    requires place { HasFlightRoom flight.old worker }
     ensures put { flight.new ≡ with_page flight.old worker line tag at }
     ensures flight { IsFlight flight.new }
 {

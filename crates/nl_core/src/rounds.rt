@@ -1,10 +1,10 @@
 //! A round of reclaiming: callbacks are handled, the metadata is committed, and one victim is cleaned.
 ghost use Rattle.std.specs.Prelude.{◌≡◌, ◌↔◌, ◌≤◌, ◌+◌, ◌^◌, [], false};
-ghost use Rattle.nl_core.specs.Calls.{HasCause, KeepsLines};
+ghost use Rattle.nl_core.specs.Calls.{FailureIsCounted, KeepsLines};
 ghost use Rattle.nl_core.specs.Core.{IsCore, names_of};
 ghost use Rattle.nl_core_callbacks.specs.Handled.{AllHandled};
-ghost use Rattle.nl_core.specs.Goes.{Goes};
-ghost use Rattle.nl_core.specs.Rounds.{EmptiesTable, HandlesAll, IfRounded, RoundIsDone};
+ghost use Rattle.nl_core.specs.Goes.{PreservesVolume};
+ghost use Rattle.nl_core.specs.Rounds.{EmptiesTable, HandlesAll, IfRounded, ReclaimPassIsDone};
 
 use crate::state::Core;
 use nl_core_clean::Cleaned;
@@ -33,10 +33,10 @@ impl<D: MovingPages> Core<D> {
         requires writes { self.old.stopped ≡ 0 }
         requires stamp { D.next_stamp self.old.device + 2 ^ 20 ≤ 2 ^ 63 }
         ensures core { IsCore D.Counts self.new }
-        ensures goes { Goes D.Counts (2 ^ 20) self.old self.new }
+        ensures goes { PreservesVolume D.Counts (2 ^ 20) self.old self.new }
         ensures lines { KeepsLines self.old self.new }
-        ensures rounds { IfRounded D.tells (RoundIsDone D.Counts D.MovingPages.own self.old self.new) result }
-        ensures faults { HasCause D.Counts (result ≡ Rounded.Fault) self.old self.new }
+        ensures rounds { IfRounded D.tells (ReclaimPassIsDone D.Counts D.MovingPages.own self.old self.new) result }
+        ensures faults { FailureIsCounted D.Counts (result ≡ Rounded.Fault) self.old self.new }
     {
         match self.empty_table() {
             Rounded::Done => {
@@ -58,10 +58,10 @@ impl<D: MovingPages> Core<D> {
         requires writes { self.old.stopped ≡ 0 }
         requires stamp { D.next_stamp self.old.device + 2 ^ 20 ≤ 2 ^ 63 }
         ensures core { IsCore D.Counts self.new }
-        ensures goes { Goes D.Counts (2 ^ 20) self.old self.new }
+        ensures goes { PreservesVolume D.Counts (2 ^ 20) self.old self.new }
         ensures lines { KeepsLines self.old self.new }
         ensures emptied { IfRounded D.tells (EmptiesTable D.Counts self.old self.new) result }
-        ensures faults { HasCause D.Counts (result ≡ Rounded.Fault) self.old self.new }
+        ensures faults { FailureIsCounted D.Counts (result ≡ Rounded.Fault) self.old self.new }
     {
         match self.handle_all() {
             Rounded::Done => self.commit_if_due(),
@@ -75,10 +75,10 @@ impl<D: MovingPages> Core<D> {
         requires writes { self.old.stopped ≡ 0 }
         requires stamp { D.next_stamp self.old.device + 2 ^ 20 ≤ 2 ^ 63 }
         ensures core { IsCore D.Counts self.new }
-        ensures goes { Goes D.Counts (2 ^ 19) self.old self.new }
+        ensures goes { PreservesVolume D.Counts (2 ^ 19) self.old self.new }
         ensures lines { KeepsLines self.old self.new }
         ensures handles { IfRounded D.tells (HandlesAll D.Counts self.old self.new) result }
-        ensures faults { HasCause D.Counts (result ≡ Rounded.Fault) self.old self.new }
+        ensures faults { FailureIsCounted D.Counts (result ≡ Rounded.Fault) self.old self.new }
     {
         device_stands(&self.device);
         'each: while let Some(number) = self.device.least() {
@@ -102,10 +102,10 @@ impl<D: MovingPages> Core<D> {
         requires stamp { D.next_stamp self.old.device + 512 ≤ 2 ^ 63 }
         requires handled { AllHandled (names_of D.Counts self.old) }
         ensures core { IsCore D.Counts self.new }
-        ensures goes { Goes D.Counts 512 self.old self.new }
+        ensures goes { PreservesVolume D.Counts 512 self.old self.new }
         ensures lines { KeepsLines self.old self.new }
         ensures emptied { IfRounded D.tells (EmptiesTable D.Counts self.old self.new) result }
-        ensures faults { HasCause D.Counts (result ≡ Rounded.Fault) self.old self.new }
+        ensures faults { FailureIsCounted D.Counts (result ≡ Rounded.Fault) self.old self.new }
     {
         if !self.is_due() {
             return Rounded::Done;

@@ -10,7 +10,7 @@ use Rattle.nl_field.specs.declared.pointer.Tag.{Tag}
 use Rattle.nl_field.specs.declared.shape.Shape.{Shape}
 use Rattle.nl_iface.specs.declared.counts.Counts.{Ghosts}
 use Rattle.nl_indirect.proofs.LawProofs.{at-slot}
-use Rattle.nl_inode.specs.FreeLaws.{NodesAreFree, PoolIsFree, Uses}
+use Rattle.nl_inode.specs.FreeLaws.{NodesAreFree, PoolIsFree, UsesAddress}
 use Rattle.nl_inode.specs.Nodes.{Spaces}
 use Rattle.nl_meta.specs.Committed.{VirtualMap}
 use Rattle.nl_meta.specs.Consistent.{AddressAt, IsNode}
@@ -29,8 +29,8 @@ InUse shape pages n = (rec : InodeRec) × IsNode shape pages n rec
 pub record UsesSame (shape : Shape) (old new : VirtualMap) : Type 0 where
   pub node_to : (n : ℕ) → InUse shape old n → InUse shape new n
   pub node_from : (n : ℕ) → InUse shape new n → InUse shape old n
-  pub to : (a : ℕ) → Uses shape old a → Uses shape new a
-  pub from : (a : ℕ) → Uses shape new a → Uses shape old a
+  pub to : (a : ℕ) → UsesAddress shape old a → UsesAddress shape new a
+  pub from : (a : ℕ) → UsesAddress shape new a → UsesAddress shape old a
 
 module _ (shape : Shape) (old new : VirtualMap) (u : UsesSame shape old new) (s : Spaces) where
   nodes-stay : NodesAreFree shape old s → NodesAreFree shape new s

@@ -7,27 +7,27 @@ use Rattle.nl_field.specs.declared.pointer.Pointer.{Pointer}
 use Rattle.nl_field.specs.declared.pointer.Tag.{Tag}
 use Rattle.nl_flight.specs.Flight.{InFlight, carried, has_stamp, renamed, renamed_pointer}
 use Rattle.nl_spec_holders.specs.Holding.{Holding, HoldsPages}
-use Rattle.nl_spec_holders.specs.Laws.{Keeps}
+use Rattle.nl_spec_holders.specs.Laws.{PreservesHolding}
 use Rattle.nl_spec_holders.specs.Lists.{Renames}
 use Rattle.nl_spec_holders.proofs.LawProofs.{handle_keeps}
 use Rattle.nl_iface.proofs.Stops.{keeps_medium_then}
 use Rattle.nl_iface.specs.Calls.{KeepsMedium}
 use Rattle.nl_iface.specs.Holders.{tagged, wants_tagged}
-use Rattle.nl_iface.specs.Moves.{IsUnhandled, Marks, first_of}
+use Rattle.nl_iface.specs.Moves.{IsUnhandled, MarksHandled, first_handled}
 use Rattle.nl_iface.specs.Names.{Has, Names, led}
 use Rattle.nl_iface.specs.declared.Callback.{Callback}
 use Rattle.nl_iface.specs.declared.counts.Counts.{Ghosts}
 use Rattle.nl_meta.specs.Pages.{Pages}
 use Rattle.nl_meta.specs.PointerLists.{tagged_in}
-use Rattle.nl_meta.specs.Steps.{ChangesPages}
+use Rattle.nl_meta.specs.Steps.{ChangesRunningPages}
 use Rattle.nl_meta.proofs.PageProofs.{none}
-use Rattle.nl_meta_running.specs.Running.{Runs, RunsOn, running_on}
+use Rattle.nl_meta_running.specs.Running.{RunningIsRight, PreservesRunning, running_on}
 use Rattle.nl_handler.specs.Handling.{CannotBeDirty, HandlesStored, IsElsewhere, list_has}
-use Rattle.nl_handler.specs.Laws.{FlightRenames, FreeingRenames, HandledHolders, HandlerChangesPages, HandlerKeeps, Handles}
+use Rattle.nl_handler.specs.Laws.{FlightRenames, FreeingRenames, HandledHolders, HandlerChangesPages, HandlerKeeps, HandlerAnswers}
 use Rattle.nl_handler.specs.declared.answer.Handled.{Handled}
 use Rattle.nl_handler.specs.declared.answer.Handled.TheVariants as handled
 use Rattle.nl_core_callbacks.specs.Blocked.{IsBlocked}
-use Rattle.nl_core_callbacks.specs.Handled.{HandlesSome, MarksSome, Volume, holding_on, nameless_body, volume}
+use Rattle.nl_core_callbacks.specs.Handled.{HandlesSome, MarksSomeHandled, Volume, holding_on, nameless_body, volume}
 use Rattle.nl_core_callbacks.proofs.Free.{free-stays}
 use Rattle.nl_core_callbacks.proofs.Joined.{free-then, keeps-itself, marks-none}
 use Rattle.nl_core_callbacks.proofs.Marked.{still-graph, still-runs, still-tagged, still-uses, tagged-same}
@@ -35,19 +35,19 @@ use Rattle.nl_core_callbacks.proofs.Nameless.{flight-nameless, flight-unmoved, f
 use Rattle.nl_core_callbacks.proofs.Pages.{Alters, alters, alters-none, full-not, read-graph, still-full}
 
 -- a callback that is marked by its number
-pub marks-of : (c d : Callback) (transaction : ℕ) (s t u : Names) → t ≡ s → Has s.pending c → d.number ≡ c.number → Marks d transaction t u → Marks c transaction s u
-marks-of c d transaction s t u same has number m = subst (λ (n : Names). Marks c transaction n u) same (record {
+pub marks-of : (c d : Callback) (transaction : ℕ) (s t u : Names) → t ≡ s → Has s.pending c → d.number ≡ c.number → MarksHandled d transaction t u → MarksHandled c transaction s u
+marks-of c d transaction s t u same has number m = subst (λ (n : Names). MarksHandled c transaction n u) same (record {
   has = subst (λ (n : Names). Has n.pending c) (sym same) has;
   live = m.live;
   pairs = m.pairs;
   pending = m.pending;
   posted = m.posted;
   space = m.space;
-  here = ap u.handled (sym number) ∙ m.here ∙ ap (λ (n : ℕ). first_of (t.handled n) transaction) number;
+  here = ap u.handled (sym number) ∙ m.here ∙ ap (λ (n : ℕ). first_handled (t.handled n) transaction) number;
   elsewhere = λ n off. m.elsewhere n (λ e. off (e ∙ number));
 })
 
-pub marks-some : (c : Callback) (transaction : ℕ) (s t : Names) → Marks c transaction s t → MarksSome transaction s t
+pub marks-some : (c : Callback) (transaction : ℕ) (s t : Names) → MarksHandled c transaction s t → MarksSomeHandled transaction s t
 marks-some c transaction s t m = record {
   live = m.live;
   pairs = m.pairs;
@@ -59,8 +59,8 @@ marks-some c transaction s t m = record {
   where
     by : (n : ℕ) → (n ≡ c.number) ⊎ (n ≢ c.number) → (o : Option ℕ) → s.handled c.number ≡ o → (t.handled n ≡ s.handled n) ⊎ (IsUnhandled s n × (t.handled n ≡ Some transaction))
     by n (inr off) o is = inl (m.elsewhere n off)
-    by n (inl e) None none = inr ((c, m.has, sym e, ap s.handled e ∙ none), ap t.handled e ∙ m.here ∙ ap (λ (k : Option ℕ). first_of k transaction) none)
-    by n (inl e) (Some earlier) is = inl (ap t.handled e ∙ m.here ∙ ap (λ (k : Option ℕ). first_of k transaction) is ∙ sym (ap s.handled e ∙ is))
+    by n (inl e) None none = inr ((c, m.has, sym e, ap s.handled e ∙ none), ap t.handled e ∙ m.here ∙ ap (λ (k : Option ℕ). first_handled k transaction) none)
+    by n (inl e) (Some earlier) is = inl (ap t.handled e ∙ m.here ∙ ap (λ (k : Option ℕ). first_handled k transaction) is ∙ sym (ap s.handled e ∙ is))
 
 -- no page elsewhere has the sequence number
 nowhere-parts : (stamp : ℕ) (flight : List InFlight) (freeing : List Pointer) → (IsElsewhere stamp flight freeing → ⊥) → (has_stamp flight stamp ≡ false) × (list_has stamp freeing ≡ false)
@@ -90,9 +90,9 @@ elsewhere-or stamp flight freeing = by (cases_Bool (has_stamp flight stamp)) (ca
 -- A call of the handler for a pending callback, over a volume that runs.
 pub record Call {D : Type 0} (g : Ghosts D) (s : D) (p : Pages) (t : D) (q : Pages) (flight : List InFlight) (freeing : List Pointer) (c : Callback) (answer : Handled) : Type 0 where
   pub bounds : ShapeBounds (g.shape s)
-  pub runs : Runs g s p
+  pub runs : RunningIsRight g s p
   pub pending : Has (g.names s).pending c
-  pub does : Handles g s p t q flight freeing c answer
+  pub does : HandlerAnswers g s p t q flight freeing c answer
   pub changes : HandlerChangesPages g
 
 -- the volume after it: the lines in flight and the pointers that await their free have the name
@@ -102,8 +102,8 @@ volume_after g s u q flight freeing c = volume u q (renamed c.stamp (led (g.name
 -- What marks the callback after it.
 pub record Mark {D : Type 0} (g : Ghosts D) (s t u : D) (q : Pages) (c : Callback) (answer : Handled) (transaction : ℕ) : Type 0 where
   pub is : (answer ≡ handled.Renamed) ⊎ (answer ≡ handled.Gone)
-  pub runs : Runs g t q
-  pub marks : Marks c transaction (g.names s) (g.names u)
+  pub runs : RunningIsRight g t q
+  pub marks : MarksHandled c transaction (g.names s) (g.names u)
   pub kept : KeepsMedium g t u
 
 -- the laws of those that hold pages
@@ -127,11 +127,11 @@ module _ {D : Type 0} {g : Ghosts D} {s : D} {p : Pages} {t : D} {q : Pages} {fl
       by (inl here) = let x = call.does.elsewhere here in alters-none g s p t q call.bounds call.runs x.1 x.2
       by (inr nowhere) = alters g s p t q call.bounds call.runs c.tag c.stamp place answer (call.does.stored nowhere)
 
-  pages-changed : ChangesPages p q
+  pages-changed : ChangesRunningPages p q
   pages-changed = by (elsewhere-or c.stamp flight freeing)
     where
-      by : IsElsewhere c.stamp flight freeing ⊎ (IsElsewhere c.stamp flight freeing → ⊥) → ChangesPages p q
-      by (inl here) = subst (ChangesPages p) (sym (call.does.elsewhere here).1) (none p)
+      by : IsElsewhere c.stamp flight freeing ⊎ (IsElsewhere c.stamp flight freeing → ⊥) → ChangesRunningPages p q
+      by (inl here) = subst (ChangesRunningPages p) (sym (call.does.elsewhere here).1) (none p)
       by (inr nowhere) = call.changes s p t q c.tag c.stamp place answer (call.does.stored nowhere)
 
   pub handled-few : length q.dirty ≤ length p.dirty + 1
@@ -143,7 +143,7 @@ module _ {D : Type 0} {g : Ghosts D} {s : D} {p : Pages} {t : D} {q : Pages} {fl
     after-bounds : ShapeBounds (g.shape t)
     after-bounds = subst ShapeBounds (sym altered.reads.medium.virtual.same_shape) call.bounds
 
-    pub handled-runs : Runs g u q
+    pub handled-runs : RunningIsRight g u q
     handled-runs = still-runs g t u q after-bounds mark.runs mark.kept.virtual
 
     same-tagged : tagged_in (g.shape u) (running_on g u q) ≡ tagged_in (g.shape t) (running_on g t q)
@@ -154,7 +154,7 @@ module _ {D : Type 0} {g : Ghosts D} {s : D} {p : Pages} {t : D} {q : Pages} {fl
     renames-running holders (inl e) = subst (λ (list : List (Tag × Pointer)). Renames tagged wants_tagged c.stamp place (tagged_in (g.shape s) (running_on g s p)) list) (sym same-tagged) (holders.running e)
     renames-running holders (inr e) = absurd (holders.never_gone e)
 
-    holders-keep : HolderLaws g → (h : Holding) → h.number < transaction → HoldsPages (holding_on g before h) → Keeps (holding_on g before h) (holding_on g (volume_after g s u q flight freeing c) h)
+    holders-keep : HolderLaws g → (h : Holding) → h.number < transaction → HoldsPages (holding_on g before h) → PreservesHolding (holding_on g before h) (holding_on g (volume_after g s u q flight freeing c) h)
     holders-keep laws h later f =
         let rest = laws.awaits c.stamp place freeing in
         handle_keeps (holding_on g before h) (g.names u) c transaction later mark.marks
@@ -185,7 +185,7 @@ module _ {D : Type 0} {g : Ghosts D} {s : D} {p : Pages} {t : D} {q : Pages} {fl
 
   -- ---- it was left
 
-  module _ (other : answer ≡ handled.Renamed → ⊥) (on : RunsOn g s p t q) where
+  module _ (other : answer ≡ handled.Renamed → ⊥) (on : PreservesRunning g s p t q) where
     nowhere : IsElsewhere c.stamp flight freeing → ⊥
     nowhere here = other (call.does.elsewhere here).0
 
@@ -206,7 +206,7 @@ module _ {D : Type 0} {g : Ghosts D} {s : D} {p : Pages} {t : D} {q : Pages} {fl
     pub left-some : (transaction : ℕ) → HandlesSome g transaction before (volume_after g s t q flight freeing c)
     left-some transaction = record {
       marks = marks-none transaction (g.names s) (g.names t) on.reads.names;
-      holders = λ h later. subst (λ (k : Holding). Keeps (holding_on g before h) k) (sym (same-holding h)) (keeps-itself (holding_on g before h));
+      holders = λ h later. subst (λ (k : Holding). PreservesHolding (holding_on g before h) k) (sym (same-holding h)) (keeps-itself (holding_on g before h));
       nodes = altered.nodes;
       free = free-stays g before (volume_after g s t q flight freeing c) altered.reads.medium.virtual.same_shape altered.uses;
       pages = pages-changed;
@@ -239,11 +239,11 @@ pub lost-other : (w f : ℕ) → handled.Lost w f ≡ handled.Renamed → ⊥
 lost-other w f e = cc
 
 -- the mark of a device, which names the callback by its number
-pub marks-by : (c : Callback) (transaction : ℕ) (s t u : Names) (answer : Bool) → t ≡ s → Has s.pending c → (answer ≡ true → (d : Callback) × (d.number ≡ c.number) × Marks d transaction t u)
-    → (answer ≡ false → (d : Callback) → Has t.pending d → d.number ≢ c.number) → Marks c transaction s u
+pub marks-by : (c : Callback) (transaction : ℕ) (s t u : Names) (answer : Bool) → t ≡ s → Has s.pending c → (answer ≡ true → (d : Callback) × (d.number ≡ c.number) × MarksHandled d transaction t u)
+    → (answer ≡ false → (d : Callback) → Has t.pending d → d.number ≢ c.number) → MarksHandled c transaction s u
 marks-by c transaction s t u answer same has marked none = by (cases_Bool answer)
   where
-    by : (answer ≡ true) ⊎ (answer ≡ false) → Marks c transaction s u
+    by : (answer ≡ true) ⊎ (answer ≡ false) → MarksHandled c transaction s u
     by (inl e) = let m = marked e in marks-of c m.0 transaction s t u same has m.1 m.2
     by (inr e) = absurd (none e c (subst (λ (n : Names). Has n.pending c) (sym same) has) refl)
 

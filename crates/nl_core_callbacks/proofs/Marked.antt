@@ -12,7 +12,7 @@ use Rattle.nl_meta.specs.Nodes.{graph_of, pointers_of}
 use Rattle.nl_meta.specs.Pages.{Pages, page_of}
 use Rattle.nl_meta.specs.PointerLists.{tagged_in, with_tag}
 use Rattle.nl_meta.specs.Running.{or_stored, running_over}
-use Rattle.nl_meta_running.specs.Running.{IsNeeded, Runs, running_on, stored_on}
+use Rattle.nl_meta_running.specs.Running.{IsNeeded, RunningIsRight, running_on, stored_on}
 use Rattle.nl_meta_running.proofs.GraphStays.{graph-same}
 use Rattle.nl_meta_running.proofs.SameNeeded.{addresses-right, entries-right, needed-from, nodes-right}
 use Rattle.nl_core_callbacks.proofs.Free.{UsesSame, uses-needed}
@@ -21,7 +21,7 @@ use Rattle.nl_core_callbacks.proofs.Free.{UsesSame, uses-needed}
 pub tagged-same : (n m : Shape) (a b : VirtualMap) → m ≡ n → graph_of m b ≡ graph_of n a → tagged_in m b ≡ tagged_in n a
 tagged-same n m a b shapes graphs = λ i. map with_tag (pointers_of (shapes i) (graphs i))
 
-module _ {D : Type 0} (g : Ghosts D) (s t : D) (p : Pages) (bounds : ShapeBounds (g.shape s)) (runs : Runs g s p) (k : KeepsVirtual g s t) where
+module _ {D : Type 0} (g : Ghosts D) (s t : D) (p : Pages) (bounds : ShapeBounds (g.shape s)) (runs : RunningIsRight g s p) (k : KeepsVirtual g s t) where
   shapes : g.shape s ≡ g.shape t
   shapes = sym k.same_shape
 
@@ -39,7 +39,7 @@ module _ {D : Type 0} (g : Ghosts D) (s t : D) (p : Pages) (bounds : ShapeBounds
   still-needed : (v : ℕ) → IsNeeded (g.shape s) (running_on g s p) v → running_on g t p v ≡ running_on g s p v
   still-needed v need = by-page v need (page_of p v) refl
 
-  pub still-runs : Runs g t p
+  pub still-runs : RunningIsRight g t p
   still-runs = record {
     count = runs.count ∙ ap (λ (n : Shape). n.vaddrs) shapes;
     nodes = subst (λ (n : Shape). NodesRight n (running_on g t p)) shapes (nodes-right (g.shape s) bounds (running_on g s p) (running_on g t p) still-needed runs.nodes);

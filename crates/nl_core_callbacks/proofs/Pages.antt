@@ -25,7 +25,7 @@ use Rattle.nl_meta.specs.Pages.{Pages, above, below, besides_0, has_room, is_dir
 use Rattle.nl_meta.proofs.Lists.{some_in}
 use Rattle.nl_meta.proofs.Rising.{whole_length, with-member}
 use Rattle.nl_meta.proofs.SlotProofs.{at_index}
-use Rattle.nl_meta_running.specs.Running.{Runs, RunsOn, running_on}
+use Rattle.nl_meta_running.specs.Running.{RunningIsRight, PreservesRunning, running_on}
 use Rattle.nl_meta_running.proofs.GraphStays.{all-pointers, graph-same}
 use Rattle.nl_meta_running.proofs.Holds.{reads-none}
 use Rattle.nl_meta_running.proofs.Kept.{used-on}
@@ -84,13 +84,13 @@ parts v (x ∷ xs) = sides (nat_lt x v) (nat_lt v x) refl refl (parts v xs)
 one-more : (v : ℕ) (xs : List ℕ) → length (with_address v xs) ≤ length xs + 1
 one-more v xs = let w = whole_length v xs in let p = parts v xs in omega (arith, w, p)
 
-module _ {D : Type 0} (g : Ghosts D) (s : D) (p : Pages) (t : D) (q : Pages) (bounds : ShapeBounds (g.shape s)) (runs : Runs g s p) where
+module _ {D : Type 0} (g : Ghosts D) (s : D) (p : Pages) (t : D) (q : Pages) (bounds : ShapeBounds (g.shape s)) (runs : RunningIsRight g s p) where
   -- ---- only read
 
-  pub read-graph : RunsOn g s p t q → graph_of (g.shape t) (running_on g t q) ≡ graph_of (g.shape s) (running_on g s p)
+  pub read-graph : PreservesRunning g s p t q → graph_of (g.shape t) (running_on g t q) ≡ graph_of (g.shape s) (running_on g s p)
   read-graph on = ap (λ (n : Shape). graph_of n (running_on g t q)) on.reads.medium.virtual.same_shape ∙ graph-same (g.shape s) bounds (running_on g s p) (running_on g t q) on.needed
 
-  alters-read : RunsOn g s p t q → Alters g s p t q
+  alters-read : PreservesRunning g s p t q → Alters g s p t q
   alters-read on = record {
     reads = on.reads;
     nodes = same-nodes (g.shape s) (g.shape t) (running_on g s p) (running_on g t q) (read-graph on);
@@ -163,7 +163,7 @@ module _ {D : Type 0} (g : Ghosts D) (s : D) (p : Pages) (t : D) (q : Pages) (bo
   same-room : q.dirty ≡ p.dirty → (v : ℕ) → has_room q v ≡ has_room p v
   same-room dirty v = ap (λ (addresses : List ℕ). v == 0 || list_any (λ a. a == v) addresses || nat_lt (length (besides_0 addresses)) most) dirty
 
-  same-pointer : RunsOn g s p t q → (tag : Tag) (rec : InodeRec) → TagsFile (g.shape s) (running_on g s p) tag rec → pointer_at (running_on g t q) rec tag.index ≡ pointer_at (running_on g s p) rec tag.index
+  same-pointer : PreservesRunning g s p t q → (tag : Tag) (rec : InodeRec) → TagsFile (g.shape s) (running_on g s p) tag rec → pointer_at (running_on g t q) rec tag.index ≡ pointer_at (running_on g s p) rec tag.index
   same-pointer on tag rec file =
       sym (at_index (running_on g t q) rec tag.index eight)
       ∙ ap (λ (ps : List Pointer). slice_index_or (rec.direct ++ ps) tag.index no_pointer)
@@ -173,7 +173,7 @@ module _ {D : Type 0} (g : Ghosts D) (s : D) (p : Pages) (t : D) (q : Pages) (bo
       eight : length rec.direct ≡ 8
       eight = (file-parts rec (file_of_node (g.shape s) (running_on g s p) tag.ino rec runs.addresses file.is_node file.tagged.is_file).file).direct
 
-  pub still-full : RunsOn g s p t q → (tag : Tag) (stamp : ℕ) → CannotBeDirty (g.shape s) (running_on g s p) p tag stamp → CannotBeDirty (g.shape t) (running_on g t q) q tag stamp
+  pub still-full : PreservesRunning g s p t q → (tag : Tag) (stamp : ℕ) → CannotBeDirty (g.shape s) (running_on g s p) p tag stamp → CannotBeDirty (g.shape t) (running_on g t q) q tag stamp
   still-full on tag stamp (rec, has, full) = (
     rec,
     record {

@@ -6,7 +6,7 @@ use Rattle.nl_field.specs.declared.pointer.Tag.{Tag}
 use Rattle.nl_flight.specs.Flight.{InFlight, carried}
 use Rattle.nl_flight.specs.declared.page.FlightPage.{FlightPage}
 use Rattle.nl_spec_holders.specs.Holding.{Holding}
-use Rattle.nl_spec_holders.specs.Laws.{Keeps}
+use Rattle.nl_spec_holders.specs.Laws.{PreservesHolding}
 use Rattle.nl_iface.specs.Calls.{KeepsMedium}
 use Rattle.nl_iface.specs.Moves.{IsUnhandled}
 use Rattle.nl_iface.specs.Names.{Has, Names, led}
@@ -18,7 +18,7 @@ use Rattle.nl_meta.specs.Committed.{VirtualMap}
 use Rattle.nl_meta.specs.Nodes.{graph_of}
 use Rattle.nl_meta.specs.Pages.{Pages, is_dirty}
 use Rattle.nl_meta.specs.PointerLists.{tagged_in}
-use Rattle.nl_meta.specs.Steps.{ChangesPages}
+use Rattle.nl_meta.specs.Steps.{ChangesRunningPages}
 use Rattle.nl_meta_running.specs.Running.{running_on}
 
 -- A volume that runs over a device: its metadata pages in memory, the lines in flight, and the pointers that await their free.
@@ -46,7 +46,7 @@ abbrev pub AllHandled : Names → Type 0
 AllHandled names = (n : ℕ) → IsUnhandled names n → ⊥
 
 -- Pending callbacks that no transaction had handled count as handled by this one. All else in the tables stays.
-pub record MarksSome (transaction : ℕ) (s t : Names) : Type 0 where
+pub record MarksSomeHandled (transaction : ℕ) (s t : Names) : Type 0 where
   pub live : (q : ℕ) → t.live q ≡ s.live q
   pub pairs : t.pairs ≡ s.pairs
   pub pending : t.pending ≡ s.pending
@@ -93,11 +93,11 @@ pub record FreeStays {D : Type 0} (g : Ghosts D) (v w : Volume D) : Type 0 where
 -- and the frozen pointers stay safe. The metadata, the lines in flight and the pointers that await their free have other names of pages at
 -- most, and the medium was only read.
 pub record HandlesSome {D : Type 0} (g : Ghosts D) (transaction : ℕ) (v w : Volume D) : Type 0 where
-  pub marks : MarksSome transaction (g.names v.device) (g.names w.device)
-  pub holders : (h : Holding) → h.number < transaction → Keeps (holding_on g v h) (holding_on g w h)
+  pub marks : MarksSomeHandled transaction (g.names v.device) (g.names w.device)
+  pub holders : (h : Holding) → h.number < transaction → PreservesHolding (holding_on g v h) (holding_on g w h)
   pub nodes : SameButNames (nodes_of g v) (nodes_of g w)
   pub free : FreeStays g v w
-  pub pages : ChangesPages v.pages w.pages
+  pub pages : ChangesRunningPages v.pages w.pages
   -- a page that became dirty has nodes, or pointers of a file
   pub dirty : (a : ℕ) → is_dirty w.pages a ≡ true → (is_dirty v.pages a ≡ true) ⊎ (67 ≤ a)
   pub flight : map nameless_line w.flight ≡ map nameless_line v.flight

@@ -2,10 +2,10 @@
 ghost use Rattle.std.specs.Prelude.{◌≡◌, ◌+◌, ◌≤◌, length};
 ghost use Rattle.nl_core_callbacks.specs.Blocked.{IsBlocked, drained_stop};
 ghost use Rattle.nl_core_callbacks.specs.Handled.{HandlesSome, volume};
-ghost use Rattle.nl_iface.specs.Moves.{Marks};
+ghost use Rattle.nl_iface.specs.Moves.{MarksHandled};
 ghost use Rattle.nl_iface.specs.Names.{Has};
-ghost use Rattle.nl_meta_running.specs.Reading.{Reads};
-ghost use Rattle.nl_meta_running.specs.Running.{Runs};
+ghost use Rattle.nl_meta_running.specs.Reading.{ReadsExplainStop};
+ghost use Rattle.nl_meta_running.specs.Running.{RunningIsRight};
 
 use nl_field::{PointerList, Shape};
 use nl_flight::Flight;
@@ -47,12 +47,12 @@ pub fn handle_one<D: MovingPages>(
     transaction: u64,
 ) -> Drained
     requires formed { D.formed device.old }
-    requires runs { Runs D.Counts device.old meta.old }
+    requires runs { RunningIsRight D.Counts device.old meta.old }
     requires pending { Has (D.names device.old).pending callback.now }
     requires shape { shape.now ≡ D.shape device.old }
     ensures formed { D.formed device.new }
-    ensures runs { Runs D.Counts device.new meta.new }
-    ensures done { result ≡ Drained.Done → Marks callback.now transaction (D.names device.old) (D.names device.new) }
+    ensures runs { RunningIsRight D.Counts device.new meta.new }
+    ensures done { result ≡ Drained.Done → MarksHandled callback.now transaction (D.names device.old) (D.names device.new) }
     ensures few { length meta.new.dirty ≤ length meta.old.dirty + 1 }
     ensures same { (result ≡ Drained.Done → ⊥) → (D.names device.new ≡ D.names device.old) × (meta.new.dirty ≡ meta.old.dirty) }
     ensures no_room { result ≡ Drained.NoRoom → IsBlocked D.Counts (volume device.new meta.new flight.new freeing.new.items) callback.now }
@@ -62,7 +62,7 @@ pub fn handle_one<D: MovingPages>(
         (volume device.new meta.new flight.new freeing.new.items) }
     ensures nodes { nodes.new ≡ nodes.old }
     ensures room { freeing.new.room ≡ freeing.old.room }
-    ensures reads { Reads D.Counts device.old device.new (drained_stop result) }
+    ensures reads { ReadsExplainStop D.Counts device.old device.new (drained_stop result) }
 {
     holders_renamed();
     handler_keeps::<D>();

@@ -4,14 +4,14 @@ use Rattle.std.proofs.lemmas.Bool.{cases_eq, cases_lt, cond-true, cond-false}
 use Rattle.std.proofs.lemmas.Option.{none-some}
 use Rattle.nl_field.specs.CrashStates.{top}
 use Rattle.nl_spec_holders.specs.Holding.{Holding}
-use Rattle.nl_spec_holders.specs.Laws.{Keeps}
+use Rattle.nl_spec_holders.specs.Laws.{PreservesHolding}
 use Rattle.nl_spec_holders.proofs.LawProofs.{copy_keeps, erase_keeps}
 use Rattle.nl_iface.specs.Moves.{Copies}
 use Rattle.nl_iface.specs.Names.{Has, LivePage, Names, SameTables, told_page, without_page}
 use Rattle.nl_iface.specs.declared.Callback.{Callback}
 use Rattle.nl_core_clean.specs.Carried.{CarriesPages}
 
-keeps_then : {u v w : Holding} → Keeps u v → Keeps v w → Keeps u w
+keeps_then : {u v w : Holding} → PreservesHolding u v → PreservesHolding v w → PreservesHolding u w
 keeps_then a b = record { holds = λ h. b.holds (a.holds h); committed = λ h k. b.committed (a.holds h) (a.committed h k) }
 
 pub carries_then : {f h k : ℕ → ℕ → Type 0} {s t u : Names} → ((p q r : ℕ) → f p q → h q r → k p r) → CarriesPages f s t → CarriesPages h t u → CarriesPages k s u

@@ -3,7 +3,7 @@ use Rattle.std.proofs.Common.{◌≡◌, ◌⊎◌, inl, inr, ⊎_elim, ℕ, con
 use Rattle.std.proofs.lemmas.Option.{none-some, same_Some}
 use Rattle.nl_iface.specs.Victims.{StaysOrTakes}
 use Rattle.nl_iface.specs.declared.moving_pages.MovingPages.{Ghosts as Moving}
-use Rattle.nl_core_clean.specs.Victim.{IsChosen}
+use Rattle.nl_core_clean.specs.Victim.{IsVictimOrMostDead}
 
 module _ {D : Type 0} (m : Moving D) where
   -- what holds before each move: while none is in hand, nothing was done
@@ -23,7 +23,7 @@ module _ {D : Type 0} (m : Moving D) where
   choosing_on start s t c takes some = record { chosen = chosen_then start s t c takes; none = λ none. absurd (some none) }
 
   -- the block that is in hand is the chosen one
-  pub is_chosen : (start now : D) (block : ℕ) → StaysOrTakes (m.most_dead start) (m.victim start) (m.victim now) → m.victim now ≡ Some block → IsChosen m start block
+  pub is_chosen : (start now : D) (block : ℕ) → StaysOrTakes (m.most_dead start) (m.victim start) (m.victim now) → m.victim now ≡ Some block → IsVictimOrMostDead m start block
   is_chosen start now block (inl same) is = inl (sym same ∙ is)
   is_chosen start now block (inr (none, (b, dead, took))) is = inr (none, subst (m.most_dead start) (same_Some b block (sym took ∙ is)) dead)
 

@@ -9,8 +9,8 @@ use Rattle.nl_iface.proofs.Stops.{reads_then}
 use Rattle.nl_iface.specs.Calls.{CallCounted, KeepsMedium, OnlyReads, StoresPages, stored}
 use Rattle.nl_iface.specs.Moves.{FailsToCopy, HasCopied, HasNothingToCopy, KeepsCleaning, LeavesMove, TakesVictim}
 use Rattle.nl_iface.specs.Names.{Names, SameTables}
-use Rattle.nl_iface.specs.Rounds.{Moves}
-use Rattle.nl_iface.specs.Space.{Begun, CanLand, Copied, NoneRetired, SameSegment, Space, Wasted}
+use Rattle.nl_iface.specs.Rounds.{MovesSomePages}
+use Rattle.nl_iface.specs.Space.{VictimBegun, CanLand, Copied, NoneRetired, SameSegment, Space, Wasted}
 use Rattle.nl_iface.specs.declared.Callback.{Callback}
 use Rattle.nl_iface.specs.declared.counts.Counts.{Ghosts}
 use Rattle.nl_core_clean.specs.Carried.{CarriesPages, KeepsHeld, KeepsStored}
@@ -38,11 +38,11 @@ moves_less s m t (inr begun) k =
     let block = begun.0.same.block in
     subst (λ v. t.left + (1 - v) * (t.block + 1) < pages_left s) (sym victim) (subst (λ v. t.left + (1 - 1) * (t.block + 1) < s.left + (1 - v) * (s.block + 1)) (sym begun.0.none) (omega (arith, less, few, block)))
 
-pub begun_less : (s t : Space) → Begun s t → t.left ≡ 0 → pages_left t < pages_left s
+pub begun_less : (s t : Space) → VictimBegun s t → t.left ≡ 0 → pages_left t < pages_left s
 begun_less s t b none = subst (λ v. t.left + (1 - v) * (t.block + 1) < pages_left s) (sym b.victim) (subst (λ v. t.left + (1 - 1) * (t.block + 1) < s.left + (1 - v) * (s.block + 1)) (sym b.none) (omega (arith, none)))
 
-pub moved_then : (r s t : Space) → HasMoved r s → Moves s t → HasMoved r t
-moved_then r s t (inl same) k = inr (subst (λ x. Moves x t) same k)
+pub moved_then : (r s t : Space) → HasMoved r s → MovesSomePages s t → HasMoved r t
+moved_then r s t (inl same) k = inr (subst (λ x. MovesSomePages x t) same k)
 moved_then r s t (inr first) k = inr (moves_laws.then r s t first k)
 
 taken_lands : (s m : Space) → TakesVictim s m → CanLand s → CanLand m
@@ -117,7 +117,7 @@ module _ {D : Type 0} (g : Ghosts D) where
   }
 
   -- the numbers and the names after a move
-  copied_moves : (s t : D) → HasCopied g s t → NoneRetired (g.names s).space (g.names t).space → 1 ≤ (g.names s).space.block → Moves (g.names s).space (g.names t).space
+  copied_moves : (s t : D) → HasCopied g s t → NoneRetired (g.names s).space (g.names t).space → 1 ≤ (g.names s).space.block → MovesSomePages (g.names s).space (g.names t).space
   copied_moves s t (inl m) none some = moves_laws.moved (g.names s).space m.taken (g.names t).space m.takes m.space none
   copied_moves s t (inr b) none some = moves_laws.begun (g.names s).space (g.names t).space some b.0.space b.1
 

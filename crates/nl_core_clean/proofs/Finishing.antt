@@ -6,7 +6,7 @@ use Rattle.nl_iface.specs.declared.moving.Copying.TheVariants.{Did, Nothing, Fau
 use Rattle.nl_field.proofs.Crashes.{then_rose}
 use Rattle.nl_field.specs.CrashStates.{Earlier, Rose, saturated}
 use Rattle.nl_iface.specs.Calls.{CallCounted, OnlyReads, Ticks, stored}
-use Rattle.nl_iface.specs.Moves.{ErasesAtStops, HasNothingToCopy, KeepsCleaning}
+use Rattle.nl_iface.specs.Moves.{ErasesAtCrashes, HasNothingToCopy, KeepsCleaning}
 use Rattle.nl_iface.specs.Names.{Names, SameTables}
 use Rattle.nl_iface.specs.Space.{NoneRetired, Space}
 use Rattle.nl_iface.specs.declared.counts.Counts.{Ghosts}
@@ -71,7 +71,7 @@ module _ {D : Type 0} (g : Ghosts D) where
   pub same_names : (t u : D) → g.names u ≡ g.names t → SameTables (g.names t) (g.names u)
   same_names t u same = subst (λ n. SameTables (g.names t) n) (sym same) (same_itself (g.names t))
 
-  pub end_held : (s t u : D) → (g.tells → KeepsStored (stored g s) (stored g t)) → KeepsHeld g s t → SameTables (g.names t) (g.names u) → (g.tells → ErasesAtStops g t u) → KeepsCleaning g t u → KeepsHeld g s u
+  pub end_held : (s t u : D) → (g.tells → KeepsStored (stored g s) (stored g t)) → KeepsHeld g s t → SameTables (g.names t) (g.names u) → (g.tells → ErasesAtCrashes g t u) → KeepsCleaning g t u → KeepsHeld g s u
   end_held s t u kept first tables left k = held_then g s t u kept first (erased_keeps g t u tables left k)
 
   pub end_ticks : (done : Type 0) (s t u : D) → g.clock s ≤ g.clock t → g.clock t ≤ g.clock u → (done → g.clock u ≡ saturated (g.clock t + 1)) → Ticks g done s u

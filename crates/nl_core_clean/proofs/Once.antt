@@ -5,7 +5,7 @@ use Rattle.nl_iface.specs.declared.moving.Copying.{Copying}
 use Rattle.nl_iface.specs.declared.moving.Copying.TheVariants as copying
 use Rattle.nl_field.specs.CrashStates.{Rose}
 use Rattle.nl_iface.specs.Calls.{KeepsMedium, NoWriteFailed, OnlyReads, StoresPages, stored}
-use Rattle.nl_iface.specs.Moves.{Begins, Copies, ErasesAtStops, ErasesVictim, FailsToCopy, HasCopied, KeepsCleaning, LeavesMove, MovesPage}
+use Rattle.nl_iface.specs.Moves.{BeginsVictim, Copies, ErasesAtCrashes, ErasesVictim, FailsToCopy, HasCopied, KeepsCleaning, LeavesMove, MovesPage}
 use Rattle.nl_iface.specs.Names.{Names, SameTables}
 use Rattle.nl_iface.specs.Space.{CanLand, SameSegment, Space}
 use Rattle.nl_iface.specs.declared.counts.Counts.{Ghosts}
@@ -100,7 +100,7 @@ module _ {D : Type 0} (g : Ghosts D) where
   erase_lands s t (inr (inl reads)) lands = subst (λ (n : Names). CanLand n.space) (sym reads.names) lands
   erase_lands s t (inr (inr failed)) lands = subst (λ (n : Names). CanLand n.space) (sym failed.0) lands
 
-  pub erase_held : (s t : D) → EraseEnds s t → (g.tells → ErasesAtStops g s t) → KeepsCleaning g s t → KeepsHeld g s t
+  pub erase_held : (s t : D) → EraseEnds s t → (g.tells → ErasesAtCrashes g s t) → KeepsCleaning g s t → KeepsHeld g s t
   erase_held s t ends left k = erased_keeps g s t (erase_tables s t ends) left k
 
   pub erase_stored : (s t : D) → EraseEnds s t → NoWriteFailed g s t → g.tells → KeepsStored (stored g s) (stored g t)
@@ -111,7 +111,7 @@ module _ {D : Type 0} (g : Ghosts D) where
   -- ---- a victim that is begun
 
   abbrev pub BeginEnds : D → D → Type 0
-  BeginEnds s t = Begins g s t ⊎ OnlyReads g s t
+  BeginEnds s t = BeginsVictim g s t ⊎ OnlyReads g s t
 
   begin_tables : (s t : D) → BeginEnds s t → SameTables (g.names s) (g.names t)
   begin_tables s t (inl begun) = begun.tables

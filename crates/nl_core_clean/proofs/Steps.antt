@@ -6,7 +6,7 @@ use Rattle.nl_field.specs.declared.shape.Shape.{Shape}
 use Rattle.nl_iface.proofs.Stops.{keeps_leave, keeps_virtual_then, tried_agree}
 use Rattle.nl_iface.specs.Calls.{KeepsMedium, StoresPages, stored}
 use Rattle.nl_iface.specs.Left.{LeavesPages}
-use Rattle.nl_iface.specs.Moves.{ErasesAtStops, KeepsCleaning, LeavesCopy, LeavesErased, LeavesMove, copy_of}
+use Rattle.nl_iface.specs.Moves.{ErasesAtCrashes, KeepsCleaning, LeavesCopy, LeavesErased, LeavesMove, copy_of}
 use Rattle.nl_iface.specs.Names.{Names, SameTables}
 use Rattle.nl_iface.specs.Stored.{NamedAgree, NamedPage, Stored}
 use Rattle.nl_iface.specs.declared.Callback.{Callback}
@@ -124,7 +124,7 @@ module _ {D : Type 0} (g : Ghosts D) where
       left
 
   -- what an erase leaves
-  pub erased_keeps : (old new : D) → SameTables (g.names old) (g.names new) → (g.tells → ErasesAtStops g old new) → KeepsCleaning g old new → KeepsHeld g old new
+  pub erased_keeps : (old new : D) → SameTables (g.names old) (g.names new) → (g.tells → ErasesAtCrashes g old new) → KeepsCleaning g old new → KeepsHeld g old new
   erased_keeps old new tables left k = record {
     pages = same_carries _ (g.names old) (g.names new) tables (λ p page is t. k.bytes t p page is);
     left = λ t. weaken _ _ (left t) (λ m c from to x. erased_held (g.shape old) (g.names old) (g.bytes old) (stored g old) (g.stored_of c) x.0 x.1);

@@ -3,8 +3,8 @@ use Rattle.std.specs.Prelude.{◌≡◌, ◌⊎◌, ℕ, ◌<◌, ◌≤◌, Lis
 use Rattle.nl_field.specs.CrashStates.{top}
 use Rattle.nl_field.specs.declared.shape.Shape.{Shape}
 use Rattle.nl_spec_holders.specs.Holding.{Holding}
-use Rattle.nl_spec_holders.specs.Laws.{Keeps}
-use Rattle.nl_iface.specs.Calls.{KeepsVirtual, Leaves, stored}
+use Rattle.nl_spec_holders.specs.Laws.{PreservesHolding}
+use Rattle.nl_iface.specs.Calls.{KeepsVirtual, CrashStatesHave, stored}
 use Rattle.nl_iface.specs.Left.{HoldsLive, LeavesPages}
 use Rattle.nl_iface.specs.Names.{Has, LivePage, Names}
 use Rattle.nl_iface.specs.Stored.{NamedAgree, SameVirtual, Stored}
@@ -15,7 +15,7 @@ use Rattle.nl_iface.specs.declared.counts.Counts.{Ghosts}
 -- what is kept of the page that was at p and is at q. Callbacks are pending as before, and new ones with new numbers, that no
 -- transaction handled.
 pub record CarriesPages (alike : ℕ → ℕ → Type 0) (s t : Names) : Type 0 where
-  pub holders : (v : Holding) → Keeps (record v { names = s }) (record v { names = t })
+  pub holders : (v : Holding) → PreservesHolding (record v { names = s }) (record v { names = t })
   pub was_live : (q : ℕ) (page : LivePage) → t.live q ≡ Some page → (p : ℕ) × (s.live p ≡ Some page) × alike p q
   pub stays_live : (p : ℕ) (page : LivePage) → s.live p ≡ Some page → (q : ℕ) × (t.live q ≡ Some page) × alike p q
   pub pending : (c : Callback) → Has s.pending c → Has t.pending c × (t.handled c.number ≡ s.handled c.number)
@@ -40,7 +40,7 @@ pub record LeavesHeld (shape : Shape) (names : Names) (bytes : ℕ → List ℕ)
 -- What holds of pages holds after the call, and of each image that a stop within it leaves. The addresses have what they had.
 pub record KeepsHeld {D : Type 0} (g : Ghosts D) (old new : D) : Type 0 where
   pub pages : CarriesPages (λ p q. g.tells → g.bytes new q ≡ g.bytes old p) (g.names old) (g.names new)
-  pub left : g.tells → Leaves g (λ m c. LeavesHeld (g.shape old) (g.names old) (g.bytes old) (stored g old) c) old new
+  pub left : g.tells → CrashStatesHave g (λ m c. LeavesHeld (g.shape old) (g.names old) (g.bytes old) (stored g old) c) old new
   pub virtual : KeepsVirtual g old new
   pub clean : g.clean old → g.clean new
   pub next_stamp : g.next_stamp new ≡ g.next_stamp old

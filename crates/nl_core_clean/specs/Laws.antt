@@ -7,5 +7,5 @@ use Rattle.nl_iface.specs.Rounds.{Cleans}
 use Rattle.nl_iface.specs.Space.{Space}
 
 -- A cleaning that is done, or that finds nothing to clean, is one of a round, so that rounds gain and end.
-abbrev pub IsOfARound : Type 0
-IsOfARound = (answer : Cleaned) (s t : Space) → (answer ≡ the.Done) ⊎ (answer ≡ the.Nothing) → CleansVictim answer s t → Cleans s t
+abbrev pub IsOfReclaimPass : Type 0
+IsOfReclaimPass = (answer : Cleaned) (s t : Space) → (answer ≡ the.Done) ⊎ (answer ≡ the.Nothing) → CleansVictim answer s t → Cleans s t

@@ -5,12 +5,12 @@ use Rattle.nl_core_clean.specs.declared.cleaning.Cleaned.TheVariants as the
 use Rattle.nl_iface.specs.declared.moving.Copying.{Copying}
 use Rattle.nl_iface.specs.declared.moving.Copying.TheVariants as copy
 use Rattle.nl_iface.specs.Moves.{HasNothingToCopy}
-use Rattle.nl_iface.specs.Rounds.{Moves}
+use Rattle.nl_iface.specs.Rounds.{MovesSomePages}
 use Rattle.nl_iface.specs.Space.{Erased, NoneRetired, SameSegment, Space}
 
 -- pages of a victim were moved, or none
 abbrev pub HasMoved : Space → Space → Type 0
-HasMoved s m = (m ≡ s) ⊎ Moves s m
+HasMoved s m = (m ≡ s) ⊎ MovesSomePages s m
 
 -- A victim is in hand afterwards. As many pages are live.
 pub record StaysInHand (s t : Space) : Type 0 where

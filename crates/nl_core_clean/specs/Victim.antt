@@ -8,13 +8,13 @@ use Rattle.nl_iface.specs.declared.counts.Counts.{Ghosts}
 use Rattle.nl_iface.specs.declared.moving_pages.MovingPages.{Ghosts as Moving}
 
 -- The block was in hand; or none was, and it was one with the most dead pages.
-abbrev pub IsChosen : {D : Type 0} → Moving D → D → ℕ → Type 0
-IsChosen m old block = (m.victim old ≡ Some block) ⊎ ((m.victim old ≡ None) × m.most_dead old block)
+abbrev pub IsVictimOrMostDead : {D : Type 0} → Moving D → D → ℕ → Type 0
+IsVictimOrMostDead m old block = (m.victim old ≡ Some block) ⊎ ((m.victim old ≡ None) × m.most_dead old block)
 
 -- One block was erased, each page of it, and none is in hand now.
 pub record WipesBlock {D : Type 0} (g : Ghosts D) (m : Moving D) (old new : D) : Type 0 where
   pub block : ℕ
-  pub chosen : IsChosen m old block
+  pub chosen : IsVictimOrMostDead m old block
   pub none : m.victim new ≡ None
   pub wiped : g.tells → IsWiped (m.blank new) (g.shape old).pages block (stored g new)
 

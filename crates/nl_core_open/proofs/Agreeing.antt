@@ -6,7 +6,7 @@ use Rattle.nl_field.specs.Medium.{Readable, physical_pages, shape_of_image, virt
 use Rattle.nl_field.specs.Members.{Has}
 use Rattle.nl_field.specs.Page.{Image}
 use Rattle.nl_field.specs.Scan.{agrees_below, differs_from_lower}
-use Rattle.nl_field.specs.ScanList.{ListTells, physical_seen, seen_in, seen_of, virtual_seen}
+use Rattle.nl_field.specs.ScanList.{ListIsOfImage, physical_seen, seen_in, seen_of, virtual_seen}
 use Rattle.nl_field.specs.declared.seen.Seen.{Seen}
 use Rattle.nl_field.proofs.ScanLists.{lists_tell}
 use Rattle.nl_meta.specs.Consistent.{AllAgree}
@@ -17,7 +17,7 @@ all_hold p [] each = refl
 all_hold p (x ∷ xs) each = (λ i. each x (inl refl) i && all_hold p xs (λ y has. each y (inr has)) i)
 
 module _ (image : Image) (virtuals : AllAgree (virtual_seen (shape_of_image image) (seen_in image))) (physicals : AllAgree (physical_seen (shape_of_image image) (seen_in image))) where
-  tell : ListTells image
+  tell : ListIsOfImage image
   tell = lists_tell image
 
   abbrev differ : List Readable → Readable → Readable → Bool

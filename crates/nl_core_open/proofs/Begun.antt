@@ -15,12 +15,12 @@ use Rattle.nl_device.specs.Reopened.{AreTagged}
 use Rattle.nl_device.specs.Retain.{SameMedium}
 use Rattle.nl_device.specs.declared.device.Device.{Device}
 use Rattle.nl_flight.specs.Flight.{InFlight, IsFlight, carried, nothing}
-use Rattle.nl_spec_holders.specs.Opening.{Opens}
+use Rattle.nl_spec_holders.specs.Opening.{OpensHolding}
 use Rattle.nl_iface.specs.Calls.{StoresPages}
 use Rattle.nl_iface.specs.Device.{IsVolumeShape}
 use Rattle.nl_iface.specs.Holders.{tagged}
 use Rattle.nl_iface.specs.Moves.{Retains}
-use Rattle.nl_iface.specs.Names.{Has, IsNames, IsTable, LivePage}
+use Rattle.nl_iface.specs.Names.{Has, IsNames, IsTableOfNames, LivePage}
 use Rattle.nl_iface.specs.Space.{CanLand}
 use Rattle.nl_iface.specs.Stored.{NamedAgree, NoneFailed, Stored}
 use Rattle.nl_iface.specs.declared.counts.Counts.{Ghosts}
@@ -38,22 +38,22 @@ use Rattle.nl_meta.specs.PointerLists.{with_tag}
 use Rattle.nl_meta.proofs.Lists.{none_some}
 use Rattle.nl_meta_running.specs.Running.{running_on}
 use Rattle.nl_meta_running.proofs.Holds.{bounds-of}
-use Rattle.nl_journal_commit.specs.Completing.{IsOpen}
+use Rattle.nl_journal_commit.specs.Completing.{AwaitsCommitPage}
 use Rattle.nl_journal_commit.specs.Holding.{running_holders}
-use Rattle.nl_journal_commit.specs.Standing.{IsJournaled, StandsOn}
+use Rattle.nl_journal_commit.specs.Standing.{IsJournaled, PreservesGraph}
 use Rattle.nl_journal_commit.proofs.Standing.{addresses_stand}
 use Rattle.nl_spec_commits.specs.Held.{IsHeldVolume, opened}
 use Rattle.nl_spec_commits.specs.Committed.{read_as}
 use Rattle.nl_spec_commits.specs.Standing.{IsFirm, ShowsPages}
-use Rattle.nl_spec_image.specs.LeftIsSound.{MapStands}
+use Rattle.nl_spec_image.specs.LeftIsSound.{MapRepresents}
 use Rattle.nl_spec_image.proofs.NamedPages.{named_member}
 use Rattle.nl_field.specs.SpareRecord.{stamp_of}
 use Rattle.nl_spec_image.specs.RightFor.{PagesRepresent}
-use Rattle.nl_spec_image.specs.Stands.{Stands, bytes_found}
+use Rattle.nl_spec_image.specs.Stands.{ImageRepresents, bytes_found}
 use Rattle.nl_spec_commits.proofs.Stopping.{stands_alike}
-use Rattle.nl_spec_commits.specs.Trees.{RunsAs, all_at}
+use Rattle.nl_spec_commits.specs.Trees.{RepresentsTree, all_at}
 use Rattle.nl_recover.proofs.Imaged.{walks_the_image}
-use Rattle.nl_core.specs.Trees.{CoreStands}
+use Rattle.nl_core.specs.Trees.{CoreRepresents}
 use Rattle.nl_spec_commits.proofs.Holding.{opening_is_held}
 use Rattle.nl_spec_commits.proofs.Opening.{opened_is_firm}
 use Rattle.nl_spec_commits.proofs.Reading.{committed_reads}
@@ -63,10 +63,10 @@ use Rattle.nl_recover.specs.Starting.{Starts}
 use Rattle.nl_recover.specs.declared.opening.Walked.{Walked}
 use Rattle.nl_recover.proofs.Retains.{retained-differ}
 use Rattle.nl_recover.proofs.StartFacts.{walked_starts}
-use Rattle.nl_core.specs.Core.{HasFree, HasSpace, IsCore}
+use Rattle.nl_core.specs.Core.{FreeAreUnused, HasSpace, IsCore}
 use Rattle.nl_core.specs.declared.state.Core.{Core}
 use Rattle.nl_core.proofs.Written.{has_free_on, same_running}
-use Rattle.nl_core_open.specs.Beginning.{CanBegin, IsOver, stopped_by}
+use Rattle.nl_core_open.specs.Beginning.{IsAsStarted, IsStartedOver, stopped_by}
 use Rattle.nl_core_open.proofs.Opens.{are_tagged, opens, tagged_pointers}
 use Rattle.nl_core_open.proofs.Owners.{IsSeenAs}
 use Rattle.nl_core_open.proofs.Shown.{on_readable, shown}
@@ -79,7 +79,7 @@ nothing_carried : carried nothing ≡ []
 unfolding carried
 nothing_carried = refl
 
-represented : (image : Image) (count : ℕ) (tree : Tree) → Stands image count tree → PagesRepresent (shape_of_image image) (committed_of image) (page_on image) tree
+represented : (image : Image) (count : ℕ) (tree : Tree) → ImageRepresents image count tree → PagesRepresent (shape_of_image image) (committed_of image) (page_on image) tree
 unfolding bytes_found
 represented image count tree s = record { is_tree = s.is_tree; depicts = s.depicts }
 
@@ -124,7 +124,7 @@ module _ {M : Type 0} (g : Ghosts (Device M)) (s t : Device M) (seen : List Seen
     stopped = is_stopped i;
   }
 
-  module _ (can : CanBegin g s seen) (is : IsWalked g s seen w) (volume : IsVolumeShape (g.shape s)) where
+  module _ (can : IsAsStarted g s seen) (is : IsWalked g s seen w) (volume : IsVolumeShape (g.shape s)) where
     starts : Starts g s w
     starts = walked_starts g s seen w is can.none_failed
 
@@ -138,13 +138,13 @@ module _ {M : Type 0} (g : Ghosts (Device M)) (s t : Device M) (seen : List Seen
       apart = starts.apart;
     }
 
-    shut : IsOpen w.journal w.meta.frozen → ⊥
+    shut : AwaitsCommitPage w.journal w.meta.frozen → ⊥
     shut more = let few = starts.decided in let no : ⊥ = omega (arith, more, few) in no
 
     bounds : ShapeBounds (g.shape s)
     bounds = bounds-of (g.shape s) volume
 
-    free : HasFree g (core_over s)
+    free : FreeAreUnused g (core_over s)
     free = record {
       count_nodes = is.spaces.nodes;
       count_pool = let first = is.spaces.first in let pool = is.spaces.pool in let all = bounds.addresses in omega (arith, first, pool, all);
@@ -165,7 +165,7 @@ module _ {M : Type 0} (g : Ghosts (Device M)) (s t : Device M) (seen : List Seen
     pointers_are = tagged_pointers (held_in (g.shape s) (running_on g s w.meta)) ∙ sym is.kept
 
     module _ (seen_as : (p : ℕ) (page : LivePage) → Has (g.found s) (p, page) → IsSeenAs (g.shape s) seen page) (same : SameMedium g s t) (place : Pointer → ℕ)
-        (retains : Retains w.kept.items place (g.found s) (g.names t)) (table : IsTable (g.names t)) (names : IsNames (g.shape t) (g.next_stamp t) (g.names t)) (lands : CanLand (g.names t).space)
+        (retains : Retains w.kept.items place (g.found s) (g.names t)) (table : IsTableOfNames (g.names t)) (names : IsNames (g.shape t) (g.next_stamp t) (g.names t)) (lands : CanLand (g.names t).space)
         (one_kept : (g.names t).space.keep + (g.names t).space.bad ≡ 1) (stores : g.tells → StoresPages g t) (lines : IsFlight nothing) (none : freeing.items ≡ [])
         (room : (g.shape s).pblocks * (g.shape s).pages ≤ freeing.room) where
       same_shape : g.shape t ≡ g.shape s
@@ -174,7 +174,7 @@ module _ {M : Type 0} (g : Ghosts (Device M)) (s t : Device M) (seen : List Seen
       volume_t : IsVolumeShape (g.shape t)
       volume_t = subst IsVolumeShape (sym same_shape) volume
 
-      stands : StandsOn g s w.meta t w.journal w.meta
+      stands : PreservesGraph g s w.meta t w.journal w.meta
       stands = addresses_stand g s t w.journal w.meta volume journaled same.virtual
 
       runs_alike : running_holders g t w.meta ≡ running_holders g s w.meta
@@ -183,7 +183,7 @@ module _ {M : Type 0} (g : Ghosts (Device M)) (s t : Device M) (seen : List Seen
       owners : AreTagged place (g.found s) (running_holders g s w.meta)
       owners = are_tagged (g.shape s) (running_on g s w.meta) seen place (g.found s) is.consistent can.owners seen_as
 
-      opening : Opens w.kept.items (opened g t w.journal w.meta)
+      opening : OpensHolding w.kept.items (opened g t w.journal w.meta)
       opening = opens (opened g t w.journal w.meta) w.kept.items place (g.found s) (ap (λ (xs : List (Tag × Pointer)). map tagged xs) runs_alike ∙ pointers_are) retains
           (subst (λ (ps : List Pointer). AllPairs (λ (p q : Pointer). p.stamp ≢ q.stamp) ps) (sym is.kept) differ)
           (subst (λ (xs : List (Tag × Pointer)). AreTagged place (g.found s) xs) (sym runs_alike) owners) refl refl refl refl refl refl refl (omega arith)
@@ -266,14 +266,14 @@ module _ {M : Type 0} (g : Ghosts (Device M)) (s t : Device M) (seen : List Seen
       }
 
       -- over an image that is sound as a tree
-      module _ (tells : g.tells) (image : Image) (tree : Tree) (over : IsOver g s w image tree) where
+      module _ (tells : g.tells) (image : Image) (tree : Tree) (over : IsStartedOver g s w image tree) where
         runs : running_on g t w.meta ≡ committed_of image
         runs =
             (λ i v. running_over (map_bytes (same_shape i) (same_map tells i)) w.meta v)
             ∙ (λ i v. is.same tells v i)
             ∙ (walks_the_image image (g.shape s) (g.map s) over.shape over.map).0
 
-        at : MapStands (shape_of_image image) (committed_of image) (page_on image) w.count tree
+        at : MapRepresents (shape_of_image image) (committed_of image) (page_on image) w.count tree
         at = record {
           super_rec = over.sound.stands.metadata.super_rec;
           numbers = over.sound.stands.metadata.numbers;
@@ -283,9 +283,9 @@ module _ {M : Type 0} (g : Ghosts (Device M)) (s t : Device M) (seen : List Seen
           data_fits = over.sound.data_fits;
         }
 
-        running : MapStands (g.shape t) (running_on g t w.meta) (page_on image) w.count tree
-        running = subst (λ (b : VirtualMap). MapStands (g.shape t) b (page_on image) w.count tree) (sym runs)
-            (subst (λ (h : Shape). MapStands h (committed_of image) (page_on image) w.count tree) (sym (same_shape ∙ over.shape)) at)
+        running : MapRepresents (g.shape t) (running_on g t w.meta) (page_on image) w.count tree
+        running = subst (λ (b : VirtualMap). MapRepresents (g.shape t) b (page_on image) w.count tree) (sym runs)
+            (subst (λ (h : Shape). MapRepresents h (committed_of image) (page_on image) w.count tree) (sym (same_shape ∙ over.shape)) at)
 
         shows : ShowsPages (g.names t) (g.bytes t) (page_on image)
         shows p page live =
@@ -294,10 +294,10 @@ module _ {M : Type 0} (g : Ghosts (Device M)) (s t : Device M) (seen : List Seen
             shown image (subst NamedAgree (ap g.stored_of (same.contents tells) ∙ over.stored) agree) p (record { tag = page.tag; stamp = page.stamp; bytes = g.bytes t p })
             (ap (λ (c : Stored). c.named p) (sym (ap g.stored_of (same.contents tells) ∙ over.stored)) ∙ here)
 
-        as_tree : RunsAs (g.shape t) (running_on g t w.meta) (page_on image) tree
+        as_tree : RepresentsTree (g.shape t) (running_on g t w.meta) (page_on image) tree
         as_tree = record { right = running.right; represents = running.represents; data_fits = running.data_fits }
 
-        pub begun_stands : CoreStands g (core_over t) (page_on image) (all_at w.count tree)
+        pub begun_stands : CoreRepresents g (core_over t) (page_on image) (all_at w.count tree)
         begun_stands = record {
           stands = record {
             running = as_tree;

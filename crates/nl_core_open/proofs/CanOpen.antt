@@ -19,26 +19,26 @@ use Rattle.nl_iface.specs.Stored.{NoneFailed, stored_in}
 use Rattle.nl_iface.specs.declared.counts.Counts.{Ghosts}
 use Rattle.nl_meta.specs.Consistent.{Consistent, tag_on}
 use Rattle.nl_nand.specs.declared.geometry.Geometry.{Geometry}
-use Rattle.nl_scan.specs.Tables.{FitsMedium, Table}
-use Rattle.nl_core_open.specs.Beginning.{CanBegin, HaveOneOwner}
+use Rattle.nl_scan.specs.Tables.{FitsMedium, ScanTable}
+use Rattle.nl_core_open.specs.Beginning.{IsAsStarted, HaveOneOwner}
 
 tag_stays : (rec : SpareRec) → tag_on (without_wear rec) ≡ tag_on rec
 tag_stays (Virtual vaddr stamp wear) = refl
 tag_stays (Physical tag stamp wear) = refl
 
-pub one_owner : (geometry : Geometry) (shape : Shape) (t : Table) → shape ≡ shape_for geometry.blocks geometry.pages → FitsMedium geometry t → HaveOneOwner shape t.seen
+pub one_owner : (geometry : Geometry) (shape : Shape) (t : ScanTable) → shape ≡ shape_for geometry.blocks geometry.pages → FitsMedium geometry t → HaveOneOwner shape t.seen
 one_owner geometry shape t is fits s q has_s has_q s_agrees q_agrees same =
     let listed = ap (λ (h : Shape). physical_seen h t.seen) is in
     sym (tag_stays s.rec)
     ∙ ap tag_on (fits.physicals s q (subst (λ (ss : List Seen). Has ss s) listed has_s) (subst (λ (ss : List Seen). Has ss q) listed has_q) s_agrees q_agrees same)
     ∙ tag_stays q.rec
 
-module _ {M : Type 0} (g : Ghosts (Device M)) (s d : Device M) (geometry : Geometry) (t : Table) (reads : OnlyReads g s d) (started : IsStarted geometry t (g.shape s) (g.names s) (g.next_stamp s)) (fits : FitsMedium geometry t) where
+module _ {M : Type 0} (g : Ghosts (Device M)) (s d : Device M) (geometry : Geometry) (t : ScanTable) (reads : OnlyReads g s d) (started : IsStarted geometry t (g.shape s) (g.names s) (g.next_stamp s)) (fits : FitsMedium geometry t) where
   same_shape : g.shape d ≡ g.shape s
   same_shape = reads.medium.virtual.same_shape
 
   pub can_begin : kept_of s ≡ kept_of_scan (g.shape s) t.seen → kept_of d ≡ kept_of s → ((block : ℕ) → virtual_spare_seen (g.shape s) t.seen ≡ Some block → g.keeps_spare s)
-      → (g.tells → NoneFailed (g.shape s).vaddrs (g.failed s)) → (g.tells → (image : Image) × (stored g d ≡ stored_in image) × Consistent image) → CanBegin g d t.seen
+      → (g.tells → NoneFailed (g.shape s).vaddrs (g.failed s)) → (g.tells → (image : Image) × (stored g d ≡ stored_in image) × Consistent image) → IsAsStarted g d t.seen
   can_begin scanned same_kept spare none_failed image = record {
     idle = ap (λ (n : Names). n.space.victim) reads.names ∙ started.victim;
     no_live = λ p. ap (λ (n : Names). n.live p) reads.names ∙ started.live p;

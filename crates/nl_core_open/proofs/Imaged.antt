@@ -22,18 +22,18 @@ use Rattle.nl_meta.specs.Walk.{walk, walk_over}
 use Rattle.nl_meta.proofs.Lists.{some_in}
 use Rattle.nl_meta.proofs.WalkProofs.{walk_is_consistency}
 use Rattle.nl_meta_running.specs.Running.{running_on, stored_on}
-use Rattle.nl_scan.specs.Tables.{Table}
-use Rattle.nl_spec_image.specs.Stands.{SoundAs}
+use Rattle.nl_scan.specs.Tables.{ScanTable}
+use Rattle.nl_spec_image.specs.Stands.{ConsistentAs}
 use Rattle.nl_spec_image.proofs.SoundProofs.{walk_is_soundness}
 use Rattle.nl_recover.specs.Recovering.{IsWalked}
 use Rattle.nl_recover.specs.declared.opening.Walked.{Walked}
 use Rattle.nl_recover.proofs.Imaged.{walks_the_image}
-use Rattle.nl_core_open.specs.Beginning.{IsOver}
+use Rattle.nl_core_open.specs.Beginning.{IsStartedOver}
 use Rattle.nl_core_open.specs.Figures.{pairs_of}
 use Rattle.nl_core_open.proofs.Agreeing.{all_agree}
 use Rattle.nl_core_open.proofs.Pairs.{pairs_are}
 
-module _ {M : Type 0} (g : Ghosts (Device M)) (s d : Device M) (image : Image) (t : Table) (tells : g.tells) (is : g.shape s ≡ shape_of_image image)
+module _ {M : Type 0} (g : Ghosts (Device M)) (s d : Device M) (image : Image) (t : ScanTable) (tells : g.tells) (is : g.shape s ≡ shape_of_image image)
     (map : (v : ℕ) → v < (g.shape s).vaddrs → g.map s v ≡ option_map value_on (newest image v)) (listed : t.seen ≡ seen_in image) where
   committed_is : committed (g.shape s) (stored_on g s) ≡ committed_of image
   committed_is = (walks_the_image image (g.shape s) (g.map s) is map).0
@@ -74,15 +74,15 @@ module _ {M : Type 0} (g : Ghosts (Device M)) (s d : Device M) (image : Image) (
         ∙ pairs_are image
 
     -- the tree as which the image is sound
-    pub sound : IsTrue (is_image image) → walk image ≡ None → (tree : Tree) × SoundAs image w.count tree
+    pub sound : IsTrue (is_image image) → walk image ≡ None → (tree : Tree) × ConsistentAs image w.count tree
     sound whole none =
         let k = (walk_is_soundness image whole).0 none in
         let c = counted in
         let same : k.2.stands.metadata.super_rec ≡ c.0 = some_in k.2.stands.metadata.super_rec c.0 (sym k.2.stands.metadata.numbers.spelled ∙ c.1) in
         let count : k.0 ≡ w.count = sym k.2.stands.count_of_calls ∙ ap (λ (r : SuperRec). r.count) same ∙ c.2 in
-        (k.1, subst (λ n. SoundAs image n k.1) count k.2)
+        (k.1, subst (λ n. ConsistentAs image n k.1) count k.2)
 
-    pub over : stored g s ≡ stored_in image → (tree : Tree) → SoundAs image w.count tree → IsOver g d w image tree
+    pub over : stored g s ≡ stored_in image → (tree : Tree) → ConsistentAs image w.count tree → IsStartedOver g d w image tree
     over holds tree good = record {
       shape = same_shape ∙ is;
       stored = ap g.stored_of (reads.medium.contents tells) ∙ holds;

@@ -25,7 +25,7 @@ use Rattle.nl_journal.proofs.BackFacts.{journal-bytes}
 use Rattle.nl_recover.proofs.Imaged.{stored-is}
 use Rattle.nl_core.specs.Core.{begun_of}
 use Rattle.nl_core.specs.declared.state.Core.{Core}
-use Rattle.nl_core_open.specs.Beginning.{IsOver}
+use Rattle.nl_core_open.specs.Beginning.{IsStartedOver}
 
 -- only two pages are asked
 next_same : (shape : Shape) (f h : VirtualMap) → f 1 ≡ h 1 → f 66 ≡ h 66 → next_number shape f ≡ next_number shape h
@@ -42,7 +42,7 @@ restored_begun p pages is = ⊎_elim
     (λ home. ap (λ (x : Phase). begun (record { number = p.number; phase = x }) (length pages.frozen.addresses)) home.0)
     is.due
 
-module _ {M : Type 0} (g : Ghosts (Device M)) (d : Device M) (seen : List Seen) (w : Walked) (image : Image) (tree : Tree) (over : IsOver g d w image tree) (walked : IsWalked g d seen w) (tells : g.tells) (wide : 67 ≤ (g.shape d).vaddrs) where
+module _ {M : Type 0} (g : Ghosts (Device M)) (d : Device M) (seen : List Seen) (w : Walked) (image : Image) (tree : Tree) (over : IsStartedOver g d w image tree) (walked : IsWalked g d seen w) (tells : g.tells) (wide : 67 ≤ (g.shape d).vaddrs) where
   bytes_are : map_bytes (g.shape d) (g.map d) ≡ virtual_bytes image
   bytes_are = λ i v. stored-is image (g.shape d) (g.map d) over.shape over.map v i
 

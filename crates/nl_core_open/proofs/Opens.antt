@@ -10,7 +10,7 @@ use Rattle.nl_field.specs.declared.shape.Shape.{Shape}
 use Rattle.nl_device.specs.Reopened.{AreTagged}
 use Rattle.nl_device.proofs.Reopened.{listed, once, some_time}
 use Rattle.nl_spec_holders.specs.Holding.{Holding}
-use Rattle.nl_spec_holders.specs.Opening.{Opens}
+use Rattle.nl_spec_holders.specs.Opening.{OpensHolding}
 use Rattle.nl_iface.specs.Holders.{tagged, times}
 use Rattle.nl_iface.specs.Moves.{Retains}
 use Rattle.nl_iface.specs.Names.{Has, LivePage, led}
@@ -63,7 +63,7 @@ module _ (v : Holding) (kept : List Pointer) (place : Pointer → ℕ) (found : 
   pub are_all : (p : Pointer) → Has kept p → 1 ≤ times tagged p.stamp v.running
   are_all p has = some_time v.running p (subst (λ (ps : List Pointer). Has ps p) (sym listed_is) has)
 
-  pub opens : v.committed ≡ map tagged v.running → v.flight ≡ [] → v.freeing ≡ [] → v.due ≡ 0 → v.frozen ≡ [] → v.leaving ≡ 0 → v.number ≡ v.decided → v.decided < v.next → Opens kept v
+  pub opens : v.committed ≡ map tagged v.running → v.flight ≡ [] → v.freeing ≡ [] → v.due ≡ 0 → v.frozen ≡ [] → v.leaving ≡ 0 → v.number ≡ v.decided → v.decided < v.next → OpensHolding kept v
   opens committed no_flight none_await none_due thawed none_leaves number next = record {
     running = kept_has;
     tags = are_held;

@@ -12,7 +12,7 @@ use Rattle.nl_field.specs.declared.shape.Shape.{Shape}
 use Rattle.nl_meta.specs.Committed.{commit_at, committed, committed_of, counting, counts, header_at, home_or_image, place_in, within_volume}
 use Rattle.nl_meta.specs.Nodes.{super_of_pages}
 use Rattle.nl_meta.proofs.Lists.{none_some}
-use Rattle.nl_core_open.specs.Laws.{SoundIsReadable}
+use Rattle.nl_core_open.specs.Laws.{ConsistentIsReadable}
 
 module _ (image : Image) (blank : readable_pages image ≡ []) where
   abbrev shape : Shape
@@ -42,5 +42,5 @@ module _ (image : Image) (blank : readable_pages image ≡ []) where
   unfolding super_of_pages
   no_super = ap (option_and_then super_of) none_at_0
 
-pub sound_is_readable : SoundIsReadable
+pub sound_is_readable : ConsistentIsReadable
 sound_is_readable image count tree sound blank = none_some sound.stands.metadata.super_rec (sym (no_super image blank) ∙ sound.stands.metadata.numbers.spelled)

@@ -18,7 +18,7 @@ use Rattle.nl_iface.specs.Calls.{stored}
 use Rattle.nl_iface.specs.Stored.{NoneFailed, stored_in, value_on}
 use Rattle.nl_iface.specs.declared.counts.Counts.{Ghosts}
 use Rattle.nl_meta.specs.Consistent.{Consistent, tag_on}
-use Rattle.nl_spec_image.specs.Stands.{SoundAs}
+use Rattle.nl_spec_image.specs.Stands.{ConsistentAs}
 use Rattle.nl_recover.specs.declared.opening.Walked.{Walked}
 use Rattle.nl_core.specs.declared.state.Core.{Core}
 
@@ -34,7 +34,7 @@ stopped_by write_faults = cond (nat_lt write_faults top) 0 top
 
 -- The device is as a start leaves it: no page is live, no block in hand, and what it keeps is what its scan saw. Its virtual segment keeps
 -- a spare block where the scan saw one. Where the medium tells what it stores, that is a sound image, and no write of an address failed.
-pub record CanBegin {M : Type 0} (g : Ghosts (Device M)) (s : Device M) (seen : List Seen) : Type 0 where
+pub record IsAsStarted {M : Type 0} (g : Ghosts (Device M)) (s : Device M) (seen : List Seen) : Type 0 where
   pub idle : (g.names s).space.victim ≡ 0
   pub no_live : (p : ℕ) → (g.names s).live p ≡ None
   pub kept : kept_of s ≡ kept_of_scan (g.shape s) seen
@@ -44,11 +44,11 @@ pub record CanBegin {M : Type 0} (g : Ghosts (Device M)) (s : Device M) (seen : 
   pub image : g.tells → (image : Image) × (stored g s ≡ stored_in image) × Consistent image
 
 -- The device was started over this image, which is sound as this tree after as many calls as the walk tells.
-pub record IsOver {M : Type 0} (g : Ghosts (Device M)) (s : Device M) (w : Walked) (image : Image) (tree : Tree) : Type 0 where
+pub record IsStartedOver {M : Type 0} (g : Ghosts (Device M)) (s : Device M) (w : Walked) (image : Image) (tree : Tree) : Type 0 where
   pub shape : g.shape s ≡ shape_of_image image
   pub stored : stored g s ≡ stored_in image
   pub map : (v : ℕ) → v < (g.shape s).vaddrs → g.map s v ≡ option_map value_on (newest image v)
-  pub sound : SoundAs image w.count tree
+  pub sound : ConsistentAs image w.count tree
 
 -- The medium is as it was. The core has what the walk handed out, nothing is in flight or awaits its free, and all calls are committed.
 pub record BeginsCore {M : Type 0} (g : Ghosts (Device M)) (s : Device M) (w : Walked) (v : Core (Device M)) : Type 0 where

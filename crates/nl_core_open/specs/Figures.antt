@@ -33,9 +33,9 @@ least_seen [] = 0
 least_seen (s ∷ rest) = fold (λ best q. min best (wear_of q.rec)) (wear_of s.rec) rest
 
 -- An opening tells the least and the greatest wear of the readable pages.
-abbrev pub TellsWear : {M : Type 0} → Image → Opened M → Type 0
-TellsWear image (Ready v figures) = (figures.least ≡ least_wear image) × (figures.greatest ≡ greatest_wear image)
-TellsWear image (Blank m) = ⊤
-TellsWear image (Damaged place m) = ⊤
-TellsWear image (Fault m) = ⊤
-TellsWear image (Memory m) = ⊤
+abbrev pub ReportsWear : {M : Type 0} → Image → Opened M → Type 0
+ReportsWear image (Ready v figures) = (figures.least ≡ least_wear image) × (figures.greatest ≡ greatest_wear image)
+ReportsWear image (Blank m) = ⊤
+ReportsWear image (Damaged place m) = ⊤
+ReportsWear image (Fault m) = ⊤
+ReportsWear image (Memory m) = ⊤

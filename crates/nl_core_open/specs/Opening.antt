@@ -17,12 +17,12 @@ use Rattle.nl_core_open.specs.Beginning.{stopped_by}
 use Rattle.nl_core_open.specs.declared.opening.Opened.{Opened}
 use Rattle.nl_core_open.specs.declared.opening.Opened.TheVariants.{Ready, Blank, Damaged, Fault, Memory}
 
-abbrev pub IfReady : {M : Type 0} → Opened M → (Core (Device M) → Type 0) → Type 0
-IfReady (Ready v figures) P = P v
-IfReady (Blank m) P = ⊤
-IfReady (Damaged place m) P = ⊤
-IfReady (Fault m) P = ⊤
-IfReady (Memory m) P = ⊤
+abbrev pub IfCoreReady : {M : Type 0} → Opened M → (Core (Device M) → Type 0) → Type 0
+IfCoreReady (Ready v figures) P = P v
+IfCoreReady (Blank m) P = ⊤
+IfCoreReady (Damaged place m) P = ⊤
+IfCoreReady (Fault m) P = ⊤
+IfCoreReady (Memory m) P = ⊤
 
 -- A core is handed out with the number of pages that its files have.
 abbrev pub IfCounted : {M : Type 0} → Ghosts (Device M) → Opened M → Type 0
@@ -32,12 +32,12 @@ IfCounted g (Damaged place m) = ⊤
 IfCounted g (Fault m) = ⊤
 IfCounted g (Memory m) = ⊤
 
-abbrev pub IsFault : {M : Type 0} → Opened M → Type 0
-IsFault (Ready v figures) = ⊥
-IsFault (Blank m) = ⊥
-IsFault (Damaged place m) = ⊥
-IsFault (Fault m) = ⊤
-IsFault (Memory m) = ⊥
+abbrev pub IsCoreOpenFault : {M : Type 0} → Opened M → Type 0
+IsCoreOpenFault (Ready v figures) = ⊥
+IsCoreOpenFault (Blank m) = ⊥
+IsCoreOpenFault (Damaged place m) = ⊥
+IsCoreOpenFault (Fault m) = ⊤
+IsCoreOpenFault (Memory m) = ⊥
 
 -- the medium of an answer
 abbrev pub opened_medium : {M : Type 0} → Opened M → M
@@ -57,18 +57,18 @@ pub record OnlyReadsMedium {M : Type 0} (tells : Type 0) (contents : M → Image
 
 -- What an image opens as: blank where no page is readable, and else ready with the count that its super page tells where it is consistent,
 -- or damaged at the first place at which a walk finds a fault.
-abbrev pub OpensImage : {M : Type 0} → Image → Opened M → Type 0
-OpensImage image (Ready v figures) =
+abbrev pub CoreOpensImage : {M : Type 0} → Image → Opened M → Type 0
+CoreOpensImage image (Ready v figures) =
     (readable_pages image ≢ []) × Consistent image
     × ((rec : SuperRec) × (super_of_pages (committed_of image) ≡ Some rec) × (rec.count ≡ v.count))
-OpensImage image (Blank m) = readable_pages image ≡ []
-OpensImage image (Damaged place m) = (readable_pages image ≢ []) × (walk image ≡ Some place)
-OpensImage image (Fault m) = ⊤
-OpensImage image (Memory m) = ⊤
+CoreOpensImage image (Blank m) = readable_pages image ≡ []
+CoreOpensImage image (Damaged place m) = (readable_pages image ≢ []) × (walk image ≡ Some place)
+CoreOpensImage image (Fault m) = ⊤
+CoreOpensImage image (Memory m) = ⊤
 
 -- Nothing is in flight or awaits its free, and all calls are committed, as of now. It can be written to, unless the count of failed writes
 -- stands at its end.
-pub record IsOpened {D : Type 0} (g : Ghosts D) (v : Core D) : Type 0 where
+pub record IsOpenedCore {D : Type 0} (g : Ghosts D) (v : Core D) : Type 0 where
   pub flight : v.flight ≡ nothing
   pub freeing : v.freeing.items ≡ []
   pub committed : v.committed ≡ v.count

@@ -3,14 +3,14 @@ ghost use Rattle.std.specs.Prelude.{◌≡◌, ◌≤◌, ◌*◌, [], length};
 ghost use Rattle.nl_journal_commit.specs.Holding.{running_holders};
 ghost use Rattle.nl_spec_commits.specs.Trees.{all_at};
 ghost use Rattle.nl_core.specs.Core.{IsCore};
-ghost use Rattle.nl_core.specs.Trees.{CoreStands};
+ghost use Rattle.nl_core.specs.Trees.{CoreRepresents};
 ghost use Rattle.nl_device.specs.Retain.{kept_of, moved_among};
 ghost use Rattle.nl_field.specs.Page.{Image};
 ghost use Rattle.nl_meta.specs.Consistent.{page_on};
 ghost use Rattle.nl_tree.specs.Tree.{Tree};
 ghost use Rattle.nl_flight.specs.Flight.{IsFlight, nothing};
 ghost use Rattle.nl_recover.specs.Recovering.{IsWalked};
-ghost use Rattle.nl_core_open.specs.Beginning.{BeginsCore, CanBegin, IsOver, stopped_by};
+ghost use Rattle.nl_core_open.specs.Beginning.{BeginsCore, IsAsStarted, IsStartedOver, stopped_by};
 
 use nl_core::Core;
 use nl_device::Device;
@@ -37,14 +37,14 @@ pub fn begin<M: Nand>(
 ) -> Core<Device<M>>
     requires formed { ⟦<Device<M> as Counts>⟧.formed device }
     requires shape { shape ≡ ⟦<Device<M> as Counts>⟧.shape device }
-    requires can { CanBegin ⟦<Device<M> as Counts>⟧ device scan.now.seen }
+    requires can { IsAsStarted ⟦<Device<M> as Counts>⟧ device scan.now.seen }
     requires walked { IsWalked ⟦<Device<M> as Counts>⟧ device scan.now.seen walked }
     requires flight { flight ≡ nothing }
     requires freeing { freeing.items ≡ [] }
     requires room { shape.pblocks * shape.pages ≤ freeing.room }
     ensures core { IsCore ⟦<Device<M> as Counts>⟧ result }
-    ensures stands { M.tells → (image : Image) (tree : Tree) → IsOver ⟦<Device<M> as Counts>⟧ device walked image tree
-        → CoreStands ⟦<Device<M> as Counts>⟧ result (page_on image) (all_at walked.count tree) }
+    ensures stands { M.tells → (image : Image) (tree : Tree) → IsStartedOver ⟦<Device<M> as Counts>⟧ device walked image tree
+        → CoreRepresents ⟦<Device<M> as Counts>⟧ result (page_on image) (all_at walked.count tree) }
     ensures pairs { (⟦<Device<M> as Counts>⟧.names result.device).space.pairs ≡ length (moved_among (kept_of device) walked.kept.items) }
     ensures files { length (running_holders ⟦<Device<M> as Counts>⟧ result.device result.meta) ≡ length walked.kept.items }
     ensures begins { BeginsCore ⟦<Device<M> as Counts>⟧ device walked result }

@@ -2,7 +2,7 @@
 ghost use Rattle.std.specs.Prelude.{◌≡◌, ◌*◌, ◌+◌, ◌≤◌, [], IfOk, IsTrue};
 ghost use Rattle.nl_spec_commits.specs.Trees.{all_at};
 ghost use Rattle.nl_core.specs.Core.{IsCore, begun_of};
-ghost use Rattle.nl_core.specs.Trees.{CoreStands};
+ghost use Rattle.nl_core.specs.Trees.{CoreRepresents};
 ghost use Rattle.nl_field.specs.CrashStates.{Rose};
 ghost use Rattle.nl_field.specs.Medium.{shape_of_image};
 ghost use Rattle.nl_field.specs.Virtual.{virtual_bytes};
@@ -11,9 +11,9 @@ ghost use Rattle.nl_field.specs.Scan.{next_stamp_of};
 ghost use Rattle.nl_flight.specs.Flight.{nothing};
 ghost use Rattle.nl_meta.specs.Committed.{next_number};
 ghost use Rattle.nl_meta.specs.Consistent.{page_on};
-ghost use Rattle.nl_core_open.specs.Figures.{TellsWear, pairs_of};
-ghost use Rattle.nl_core_open.specs.Opening.{IfCounted, IfReady, IsFault, IsOpened, OnlyReadsMedium, OpensImage, opened_medium};
-ghost use Rattle.nl_spec_image.specs.Stands.{SoundAs};
+ghost use Rattle.nl_core_open.specs.Figures.{ReportsWear, pairs_of};
+ghost use Rattle.nl_core_open.specs.Opening.{IfCounted, IfCoreReady, IsCoreOpenFault, IsOpenedCore, OnlyReadsMedium, CoreOpensImage, opened_medium};
+ghost use Rattle.nl_spec_image.specs.Stands.{ConsistentAs};
 ghost use Rattle.nl_tree.specs.Tree.{Tree};
 
 use crate::beginning::begin;
@@ -77,20 +77,20 @@ impl<M: Nand> Opened<M> {
 /// write sequence number, the number of its next transaction, and how many pairs it has are what the image tells. Ready, it tells how many
 /// pages its files have, and the least and the greatest wear of the readable pages.
 pub fn open<M: Nand>(alloc: Global, media: M) -> Opened<M>
-    ensures core { IfReady result (λ v. IsCore ⟦<Device<M> as Counts>⟧ v) }
-    ensures opened { IfReady result (λ v. IsOpened ⟦<Device<M> as Counts>⟧ v) }
+    ensures core { IfCoreReady result (λ v. IsCore ⟦<Device<M> as Counts>⟧ v) }
+    ensures opened { IfCoreReady result (λ v. IsOpenedCore ⟦<Device<M> as Counts>⟧ v) }
     ensures files { IfCounted ⟦<Device<M> as Counts>⟧ result }
     ensures number { M.tells
-        → IfReady result (λ v. begun_of v + 1 ≡ next_number (shape_of_image (M.contents media)) (virtual_bytes (M.contents media))) }
-    ensures told { M.tells → OpensImage (M.contents media) result }
-    ensures stands { M.tells → IfReady result (λ v. (tree : Tree) × SoundAs (M.contents media) v.count tree
-        × CoreStands ⟦<Device<M> as Counts>⟧ v (page_on (M.contents media)) (all_at v.count tree)) }
-    ensures next_stamp { M.tells → IfReady result (λ v. ⟦<Device<M> as Counts>⟧.next_stamp v.device ≡ next_stamp_of (M.contents media)) }
-    ensures pairs { M.tells → IfReady result (λ v. (⟦<Device<M> as Counts>⟧.names v.device).space.pairs ≡ pairs_of (M.contents media)) }
-    ensures wear { M.tells → TellsWear (M.contents media) result }
+        → IfCoreReady result (λ v. begun_of v + 1 ≡ next_number (shape_of_image (M.contents media)) (virtual_bytes (M.contents media))) }
+    ensures told { M.tells → CoreOpensImage (M.contents media) result }
+    ensures stands { M.tells → IfCoreReady result (λ v. (tree : Tree) × ConsistentAs (M.contents media) v.count tree
+        × CoreRepresents ⟦<Device<M> as Counts>⟧ v (page_on (M.contents media)) (all_at v.count tree)) }
+    ensures next_stamp { M.tells → IfCoreReady result (λ v. ⟦<Device<M> as Counts>⟧.next_stamp v.device ≡ next_stamp_of (M.contents media)) }
+    ensures pairs { M.tells → IfCoreReady result (λ v. (⟦<Device<M> as Counts>⟧.names v.device).space.pairs ≡ pairs_of (M.contents media)) }
+    ensures wear { M.tells → ReportsWear (M.contents media) result }
     ensures medium { OnlyReadsMedium M.tells M.contents M.clock M.write_faults M.left media (opened_medium result) }
-    ensures fault { IsFault result → Rose (M.read_faults media) (M.read_faults (opened_medium result)) }
-    ensures no_fault { (IsFault result → ⊥) → M.read_faults (opened_medium result) ≡ M.read_faults media }
+    ensures fault { IsCoreOpenFault result → Rose (M.read_faults media) (M.read_faults (opened_medium result)) }
+    ensures no_fault { (IsCoreOpenFault result → ⊥) → M.read_faults (opened_medium result) ≡ M.read_faults media }
 {
     let geometry = media.geometry();
     match shape_of(geometry.blocks, geometry.pages) {
@@ -103,20 +103,20 @@ pub fn open<M: Nand>(alloc: Global, media: M) -> Opened<M>
 fn open_formed<M: Nand>(alloc: Global, media: M, shape: Shape) -> Opened<M>
     requires legal { IsTrue (is_legal (M.geometry media).blocks (M.geometry media).pages) }
     requires shape { shape ≡ shape_for (M.geometry media).blocks (M.geometry media).pages }
-    ensures core { IfReady result (λ v. IsCore ⟦<Device<M> as Counts>⟧ v) }
-    ensures opened { IfReady result (λ v. IsOpened ⟦<Device<M> as Counts>⟧ v) }
+    ensures core { IfCoreReady result (λ v. IsCore ⟦<Device<M> as Counts>⟧ v) }
+    ensures opened { IfCoreReady result (λ v. IsOpenedCore ⟦<Device<M> as Counts>⟧ v) }
     ensures files { IfCounted ⟦<Device<M> as Counts>⟧ result }
     ensures number { M.tells
-        → IfReady result (λ v. begun_of v + 1 ≡ next_number (shape_of_image (M.contents media)) (virtual_bytes (M.contents media))) }
-    ensures told { M.tells → OpensImage (M.contents media) result }
-    ensures stands { M.tells → IfReady result (λ v. (tree : Tree) × SoundAs (M.contents media) v.count tree
-        × CoreStands ⟦<Device<M> as Counts>⟧ v (page_on (M.contents media)) (all_at v.count tree)) }
-    ensures next_stamp { M.tells → IfReady result (λ v. ⟦<Device<M> as Counts>⟧.next_stamp v.device ≡ next_stamp_of (M.contents media)) }
-    ensures pairs { M.tells → IfReady result (λ v. (⟦<Device<M> as Counts>⟧.names v.device).space.pairs ≡ pairs_of (M.contents media)) }
-    ensures wear { M.tells → TellsWear (M.contents media) result }
+        → IfCoreReady result (λ v. begun_of v + 1 ≡ next_number (shape_of_image (M.contents media)) (virtual_bytes (M.contents media))) }
+    ensures told { M.tells → CoreOpensImage (M.contents media) result }
+    ensures stands { M.tells → IfCoreReady result (λ v. (tree : Tree) × ConsistentAs (M.contents media) v.count tree
+        × CoreRepresents ⟦<Device<M> as Counts>⟧ v (page_on (M.contents media)) (all_at v.count tree)) }
+    ensures next_stamp { M.tells → IfCoreReady result (λ v. ⟦<Device<M> as Counts>⟧.next_stamp v.device ≡ next_stamp_of (M.contents media)) }
+    ensures pairs { M.tells → IfCoreReady result (λ v. (⟦<Device<M> as Counts>⟧.names v.device).space.pairs ≡ pairs_of (M.contents media)) }
+    ensures wear { M.tells → ReportsWear (M.contents media) result }
     ensures medium { OnlyReadsMedium M.tells M.contents M.clock M.write_faults M.left media (opened_medium result) }
-    ensures fault { IsFault result → Rose (M.read_faults media) (M.read_faults (opened_medium result)) }
-    ensures no_fault { (IsFault result → ⊥) → M.read_faults (opened_medium result) ≡ M.read_faults media }
+    ensures fault { IsCoreOpenFault result → Rose (M.read_faults media) (M.read_faults (opened_medium result)) }
+    ensures no_fault { (IsCoreOpenFault result → ⊥) → M.read_faults (opened_medium result) ≡ M.read_faults media }
 {
     match Device::start(alloc, media) {
         Started::Ready(device, scan) => {

@@ -15,13 +15,13 @@ use Rattle.nl_field.specs.declared.shape.Shape.{Shape}
 use Rattle.nl_field.specs.declared.spare.SpareRec.{SpareRec}
 use Rattle.nl_field.specs.declared.spare.SpareRec.TheVariants.{Virtual, Physical}
 use Rattle.nl_iface.specs.Stored.{value_on}
-use Rattle.nl_scan.specs.Tables.{IsTableOf, Table}
+use Rattle.nl_scan.specs.Tables.{IsTableOf, ScanTable}
 use Rattle.nl_field.specs.ScanList.{seen_of}
 use Rattle.nl_field.proofs.ScanLists.{each as list_of}
 use Rattle.nl_field.specs.declared.seen.Seen.{Seen}
 use Rattle.nl_vseg.proofs.Members.{In, any_from, any_to, enumerate_from_at, filter_from, filter_map_from, filter_to}
 use Rattle.nl_vseg.specs.Maps.{Dominated}
-use Rattle.nl_vseg.specs.Pages.{Fact, Shows, fact_of, fact_with, main_of}
+use Rattle.nl_vseg.specs.Pages.{Fact, PageShows, fact_of, fact_with, main_of}
 use Rattle.nl_vseg.specs.Places.{map_of}
 use Rattle.nl_vseg.specs.Segment.{Segment}
 use Rattle.nl_device.specs.Opening.{IsOpenedVirtual}
@@ -115,7 +115,7 @@ newest_there image v m is address greatest none =
     first_there mine (find (λ (r : Readable). is_outside image.pages (virtual_spare image) r.page) mine) m
     (filter_from (λ (r : Readable). address_on r == v && has_greatest_stamp pages r) m pages is (and_from _ _ (eq-eqb (address_on m) v address) greatest)) none
 
-module _ (image : Image) (t : Table) (is : IsTableOf image t) (agreed : list_all (λ (s : Seen). s.agrees) t.seen ≡ true) where
+module _ (image : Image) (t : ScanTable) (is : IsTableOf image t) (agreed : list_all (λ (s : Seen). s.agrees) t.seen ≡ true) where
   agrees : (r : Readable) → In r (virtual_pages image) → agrees_below image r ≡ true
   unfolding virtual_pages
   agrees r there =
@@ -158,7 +158,7 @@ module _ (image : Image) (t : Table) (is : IsTableOf image t) (agreed : list_all
       (cases_eq r.page w.page)
 
   -- what the image shows of an address is its newest page's value, or older
-  pub opened_agreed : (vseg : Segment) → IsOpenedVirtual (shape_of_image image) t vseg → (v s : ℕ) (n : List ℕ) → v < (shape_of_image image).vaddrs → Shows (first_physical (shape_of_image image)) image v s n → Dominated (map_of vseg.places image v) s n
+  pub opened_agreed : (vseg : Segment) → IsOpenedVirtual (shape_of_image image) t vseg → (v s : ℕ) (n : List ℕ) → v < (shape_of_image image).vaddrs → PageShows (first_physical (shape_of_image image)) image v s n → Dominated (map_of vseg.places image v) s n
   unfolding virtual_pages
   opened_agreed vseg opened v s n below shows = by (newest image v) refl
     where

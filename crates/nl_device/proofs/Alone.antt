@@ -10,8 +10,8 @@ use Rattle.std.proofs.lemmas.List.Folds.{Any-from_list_any, list_all_at, list_an
 use Rattle.std.proofs.lemmas.List.Sums.{list_all-from_AllPass}
 use Rattle.std.proofs.lemmas.Option.{get_or_from_slice_get, none-some, same_Some, slice_get_within}
 use Rattle.nl_field.specs.declared.pointer.Pointer.{Pointer}
-use Rattle.nl_device.specs.Kept.{IsKept, IsOfSegment, KeptPages, copies_of, copy_apart, spare_among}
-use Rattle.nl_device.specs.Marks.{marked}
+use Rattle.nl_device.specs.Kept.{AreKeptPages, IsOfSegment, KeptPages, copies_of, copy_apart, spare_among}
+use Rattle.nl_device.specs.Marks.{with_lone_block}
 use Rattle.nl_device.specs.declared.kept.copies.Copies.{Copies}
 use Rattle.nl_device.specs.declared.kept.page.KeptPage.{KeptPage}
 use Rattle.nl_device.proofs.Lookups.{is_number, number_is, other_number, same_number}
@@ -189,7 +189,7 @@ can_erase_is size pages stamps block =
 
 -- the marks after one more stamp
 pub marked_at : (first size : ℕ) (o : Option Copies) (marks : List Bool) (i : ℕ) → i < length marks → IfSome o (λ c. (first ≤ c.first / size) × (c.first / size < first + length marks))
-    → get_or (marked first size o marks) i false ≡ (get_or marks i false || lie_in size (first + i) o)
+    → get_or (with_lone_block first size o marks) i false ≡ (get_or marks i false || lie_in size (first + i) o)
 marked_at first size None marks i within o = sym (or_false (get_or marks i false))
 marked_at first size (Some c) marks i within o =
     ⊎_elim
@@ -228,7 +228,7 @@ copies_within first count size pages stamp all = by (copies_of size pages stamp)
 pub marked_more : (first size : ℕ) (pages : List KeptPage) (stamps : List ℕ) (at stamp : ℕ) (marks : List Bool) → at < length stamps → get_or stamps at stamp ≡ stamp
     → IfSome (copies_of size pages stamp) (λ c. (first ≤ c.first / size) × (c.first / size < first + length marks))
     → ((i : ℕ) → i < length marks → get_or marks i false ≡ list_any (is_alone size pages (first + i)) (take at stamps))
-    → (i : ℕ) → i < length marks → get_or (marked first size (copies_of size pages stamp) marks) i false ≡ list_any (is_alone size pages (first + i)) (take (at + 1) stamps)
+    → (i : ℕ) → i < length marks → get_or (with_lone_block first size (copies_of size pages stamp) marks) i false ≡ list_any (is_alone size pages (first + i)) (take (at + 1) stamps)
 unfolding is_alone
 marked_more first size pages stamps at stamp marks within is lies so i inside =
     marked_at first size (copies_of size pages stamp) marks i inside lies
@@ -238,7 +238,7 @@ marked_more first size pages stamps at stamp marks within is lies so i inside =
     ∙ (λ j. list_any (is_alone size pages (first + i)) (take at stamps) || or_false (is_alone size pages (first + i) stamp) j))
 
 -- the copies of a stamp lie in the blocks that have marks
-pub copies_in : (kept : KeptPages) (copies : BTreeMap ℕ Copies) (first size count stamp : ℕ) → IsKept kept copies → first ≡ kept.first → size ≡ kept.size → count ≡ kept.count
+pub copies_in : (kept : KeptPages) (copies : BTreeMap ℕ Copies) (first size count stamp : ℕ) → AreKeptPages kept copies → first ≡ kept.first → size ≡ kept.size → count ≡ kept.count
     → IfSome (get nat_cmp copies stamp) (λ c. (first ≤ c.first / size) × (c.first / size < first + count))
 copies_in kept copies first size count stamp is f s n =
     subst (λ x. IfSome (get nat_cmp copies stamp) (λ c. (x ≤ c.first / size) × (c.first / size < x + count))) (sym f)
@@ -247,7 +247,7 @@ copies_in kept copies first size count stamp is f s n =
     (subst (λ o. IfSome o (λ c. (kept.first ≤ c.first / kept.size) × (c.first / kept.size < kept.first + kept.count))) (sym (is.noted stamp))
     (copies_within kept.first kept.count kept.size kept.pages stamp is.within))))
 
-length_marked : (first size : ℕ) (o : Option Copies) (marks : List Bool) → length (marked first size o marks) ≡ length marks
+length_marked : (first size : ℕ) (o : Option Copies) (marks : List Bool) → length (with_lone_block first size o marks) ≡ length marks
 length_marked first size None marks = refl
 length_marked first size (Some c) marks = by (is_some c.apart)
   where
@@ -260,10 +260,10 @@ pub record AreMarks (kept : KeptPages) (stamps : List ℕ) (marks : List Bool) :
   pub count : length marks ≡ kept.count
   pub each : (i : ℕ) → i < length marks → get_or marks i false ≡ list_any (is_alone kept.size kept.pages (kept.first + i)) stamps
 
-pub marks_more : (kept : KeptPages) (copies : BTreeMap ℕ Copies) (first size : ℕ) (marks new : List Bool) (stamps : List ℕ) (at stamp : ℕ) → IsKept kept copies → first ≡ kept.first → size ≡ kept.size
-    → new ≡ marked first size (get nat_cmp copies stamp) marks → at < length stamps → get_or stamps at stamp ≡ stamp → AreMarks kept (take at stamps) marks → AreMarks kept (take (at + 1) stamps) new
+pub marks_more : (kept : KeptPages) (copies : BTreeMap ℕ Copies) (first size : ℕ) (marks new : List Bool) (stamps : List ℕ) (at stamp : ℕ) → AreKeptPages kept copies → first ≡ kept.first → size ≡ kept.size
+    → new ≡ with_lone_block first size (get nat_cmp copies stamp) marks → at < length stamps → get_or stamps at stamp ≡ stamp → AreMarks kept (take at stamps) marks → AreMarks kept (take (at + 1) stamps) new
 marks_more kept copies first size marks new stamps at stamp is f s made within here are =
-    let e : new ≡ marked kept.first kept.size (copies_of kept.size kept.pages stamp) marks = made ∙ (λ i. marked (f i) (s i) (is.noted stamp i) marks) in
+    let e : new ≡ with_lone_block kept.first kept.size (copies_of kept.size kept.pages stamp) marks = made ∙ (λ i. with_lone_block (f i) (s i) (is.noted stamp i) marks) in
     let lies : IfSome (copies_of kept.size kept.pages stamp) (λ c. (kept.first ≤ c.first / kept.size) × (c.first / kept.size < kept.first + length marks)) =
     subst (λ n. IfSome (copies_of kept.size kept.pages stamp) (λ c. (kept.first ≤ c.first / kept.size) × (c.first / kept.size < kept.first + n))) (sym are.count)
     (copies_within kept.first kept.count kept.size kept.pages stamp is.within) in

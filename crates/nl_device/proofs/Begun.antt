@@ -7,8 +7,8 @@ use Rattle.nl_field.specs.declared.shape.Shape.{Shape}
 use Rattle.nl_nand.specs.Nand.{ImageOf}
 use Rattle.nl_nand.specs.declared.geometry.Geometry.{Geometry}
 use Rattle.nl_callbacks.specs.Pending.{PendingTable}
-use Rattle.nl_pseg.specs.Cleaning.{Begins, IsChosen}
-use Rattle.nl_pseg.specs.Segment.{HasSpare, IsPhysicalOf, KeepsBlock, Physical, SamePages}
+use Rattle.nl_pseg.specs.Cleaning.{BeginsBlock, IsChosen}
+use Rattle.nl_pseg.specs.Segment.{CanSpareBlock, IsPhysicalOf, KeepsBlock, Physical, SameBlocksAndPages}
 use Rattle.nl_pseg.specs.Space.{IsWhole, victims}
 use Rattle.nl_pseg.specs.declared.held.Held.{Held}
 use Rattle.nl_vseg.specs.Segment.{Segment}
@@ -31,12 +31,12 @@ pub space_size : (seg : Physical) → (space_of seg).block ≡ seg.size
 unfolding space_of
 space_size seg = refl
 
-pub begun_pages : {block : ℕ} {old new : Physical} → Begins block old new → SamePages old new
+pub begun_pages : {block : ℕ} {old new : Physical} → BeginsBlock block old new → SameBlocksAndPages old new
 begun_pages b = record { same_first = b.tables.same_first; same_blocks = b.tables.same_blocks; same_size = b.tables.same_size; same_wear = b.wears }
 
 -- the device that has a victim in hand now
 pub begun_device : {geometry : Geometry} {tells : Type 0} {image : Image} {shape : Shape} {vseg : Segment} {old : Physical} {pending : PendingTable} {kept : KeptPages} {next : ℕ} → IsDevice geometry tells image shape vseg old pending kept next → (tells → ImageOf geometry image)
-    → (new : Physical) (cold : Bool) (block : ℕ) → IsChosen cold old block → Begins block old new → IsWhole new → (KeepsBlock old → KeepsBlock new) → ((i : Image) → IsPhysicalOf i old → IsPhysicalOf i new) → ((i : Image) → HasSpare i old → HasSpare i new)
+    → (new : Physical) (cold : Bool) (block : ℕ) → IsChosen cold old block → BeginsBlock block old new → IsWhole new → (KeepsBlock old → KeepsBlock new) → ((i : Image) → IsPhysicalOf i old → IsPhysicalOf i new) → ((i : Image) → CanSpareBlock i old → CanSpareBlock i new)
     → IsDevice geometry tells image shape vseg new pending kept next
 begun_device {geometry} {tells} {image} {shape} {vseg} {old} {pending} {kept} {next} f fits new cold block chosen b whole keeps segment on =
     let same = begun_pages b in

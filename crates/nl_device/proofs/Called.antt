@@ -2,11 +2,11 @@
 use Rattle.std.proofs.Common.{◌≡◌, ◌≢◌, ℕ, zero, suc, ◌<◌, ◌≤◌, ◌==◌, false, List, [], ◌∷◌, length, Option, Some, None, refl, sym, ◌∙◌, ap, subst, arith, eq-eqb, ne_eqb}
 use Rattle.std.specs.Prelude.{IfNone, IfSome}
 use Rattle.std.proofs.lemmas.Bool.{cond-true, cond-false}
-use Rattle.nl_callbacks.specs.Pending.{HasCallback, IsPending, IsTable, IsWaiting, entry_at, number_of}
+use Rattle.nl_callbacks.specs.Pending.{HasCallback, IsPending, ArePendingEntries, IsWaiting, entry_at, number_of}
 use Rattle.nl_callbacks.specs.declared.entry.Entry.{Entry}
 use Rattle.nl_iface.specs.Names.{Has}
 use Rattle.nl_iface.specs.declared.Callback.{Callback}
-use Rattle.nl_device.specs.Callbacks.{IsUnhandled, callbacks_of, handled_in}
+use Rattle.nl_device.specs.Callbacks.{HasUnhandled, callbacks_of, handled_in}
 use Rattle.nl_device.specs.State.{at_has, has_at}
 
 -- the callback of a number
@@ -28,24 +28,24 @@ handled_at (e ∷ es) (suc i) rising lt =
     cond-false (e.callback.number == number_of (entry_at es i)) e.transaction (handled_in es (number_of (entry_at es i))) off
     ∙ handled_at es i (λ a b before below. rising (suc a) (suc b) (omega (arith, before)) (omega (arith, below))) (omega (arith, lt))
 
-pub unhandled_of : (es : List Entry) (posted n : ℕ) → IsTable es posted → IsWaiting es n → IsUnhandled (callbacks_of es) (handled_in es) n
+pub unhandled_of : (es : List Entry) (posted n : ℕ) → ArePendingEntries es posted → IsWaiting es n → HasUnhandled (callbacks_of es) (handled_in es) n
 unhandled_of es posted n table w = ((entry_at es w.0).callback, has_at es w.0 w.1, w.2, ap (handled_in es) (sym w.2) ∙ (handled_at es w.0 table.rising w.1 ∙ w.3))
 
-pub waiting_of : (es : List Entry) (posted n : ℕ) → IsTable es posted → IsUnhandled (callbacks_of es) (handled_in es) n → IsWaiting es n
+pub waiting_of : (es : List Entry) (posted n : ℕ) → ArePendingEntries es posted → HasUnhandled (callbacks_of es) (handled_in es) n → IsWaiting es n
 waiting_of es posted n table u =
     let r = at_has es u.0 u.1 in
     let number : number_of (entry_at es r.0) ≡ n = ap (λ (x : Callback). x.number) r.2 ∙ u.2 in
     (r.0, r.1, number, sym (handled_at es r.0 table.rising r.1) ∙ (ap (handled_in es) number ∙ u.3))
 
-pub least_some : (es : List Entry) (posted : ℕ) (o : Option ℕ) → IsTable es posted → IfSome o (IsWaiting es) → IfSome o (IsUnhandled (callbacks_of es) (handled_in es))
+pub least_some : (es : List Entry) (posted : ℕ) (o : Option ℕ) → ArePendingEntries es posted → IfSome o (IsWaiting es) → IfSome o (HasUnhandled (callbacks_of es) (handled_in es))
 least_some es posted None table w = tt
 least_some es posted (Some n) table w = unhandled_of es posted n table w
 
-pub least_is : (es : List Entry) (posted : ℕ) (o : Option ℕ) → IsTable es posted → IfSome o (λ n. (other : ℕ) → IsWaiting es other → n ≤ other) → IfSome o (λ n. (other : ℕ) → IsUnhandled (callbacks_of es) (handled_in es) other → n ≤ other)
+pub least_is : (es : List Entry) (posted : ℕ) (o : Option ℕ) → ArePendingEntries es posted → IfSome o (λ n. (other : ℕ) → IsWaiting es other → n ≤ other) → IfSome o (λ n. (other : ℕ) → HasUnhandled (callbacks_of es) (handled_in es) other → n ≤ other)
 least_is es posted None table w = tt
 least_is es posted (Some n) table w = λ other u. w other (waiting_of es posted other table u)
 
-pub least_none : (es : List Entry) (posted : ℕ) (o : Option ℕ) → IsTable es posted → IfNone o ((n : ℕ) → IsWaiting es n → ⊥) → IfNone o ((n : ℕ) → IsUnhandled (callbacks_of es) (handled_in es) n → ⊥)
+pub least_none : (es : List Entry) (posted : ℕ) (o : Option ℕ) → ArePendingEntries es posted → IfNone o ((n : ℕ) → IsWaiting es n → ⊥) → IfNone o ((n : ℕ) → HasUnhandled (callbacks_of es) (handled_in es) n → ⊥)
 least_none es posted None table w = λ n u. w n (waiting_of es posted n table u)
 least_none es posted (Some n) table w = tt
 

@@ -4,7 +4,7 @@ use Rattle.std.specs.Prelude.{Contains, filter}
 use Rattle.std.specs.List.{list_any}
 use Rattle.std.proofs.lemmas.Bool.{cases_eq, cond-false, cond-true, true≢false}
 use Rattle.std.proofs.lemmas.Option.{none-some, same_Some}
-use Rattle.nl_callbacks.specs.Pending.{IsTable, PendingTable, beside_stamp, entry_at}
+use Rattle.nl_callbacks.specs.Pending.{ArePendingEntries, PendingTable, beside_stamp, entry_at}
 use Rattle.nl_callbacks.specs.declared.entry.Entry.{Entry}
 use Rattle.nl_field.specs.Live.{resolve}
 use Rattle.nl_iface.specs.Names.{Has, callbacks_beside}
@@ -75,7 +75,7 @@ abbrev pub led_test : List (ℕ × ℕ) → Callback → Bool
 led_test pairs c = not (resolve pairs c.before == c.before)
 
 -- the same old names
-pub called_same : (old new : Physical) (t u : PendingTable) → AreCalled old t → callbacks_of u.callbacks ≡ callbacks_of t.callbacks → IsTable u.callbacks u.posted → length u.callbacks + u.room ≡ length t.callbacks + t.room → new.pairs ≡ old.pairs → new.size ≡ old.size → ((p : ℕ) (h : Held) → held_at old p ≡ Some h → held_at new p ≡ Some h) → AreCalled new u
+pub called_same : (old new : Physical) (t u : PendingTable) → AreCalled old t → callbacks_of u.callbacks ≡ callbacks_of t.callbacks → ArePendingEntries u.callbacks u.posted → length u.callbacks + u.room ≡ length t.callbacks + t.room → new.pairs ≡ old.pairs → new.size ≡ old.size → ((p : ℕ) (h : Held) → held_at old p ≡ Some h → held_at new p ≡ Some h) → AreCalled new u
 called_same old new t u called same table room pairs size keeps =
     let back : (c : Callback) → Has (callbacks_of u.callbacks) c → Has (callbacks_of t.callbacks) c = λ c has. subst (λ l. Has l c) same has in
     record {
@@ -117,7 +117,7 @@ module _ (old new : Physical) (place : ℕ) (t : PendingTable) (called : AreCall
       (λ far. away_old c.before far)
       (cases_eq (resolve new.pairs c.before) c.before)
 
-  pub called_less : (u : PendingTable) → u.callbacks ≡ filter (is_led new.pairs) t.callbacks → IsTable u.callbacks u.posted → length u.callbacks + u.room ≡ length t.callbacks + t.room → new.size ≡ old.size → ((p : ℕ) (h : Held) → p ≢ place → held_at old p ≡ Some h → held_at new p ≡ Some h) → AreCalled new u
+  pub called_less : (u : PendingTable) → u.callbacks ≡ filter (is_led new.pairs) t.callbacks → ArePendingEntries u.callbacks u.posted → length u.callbacks + u.room ≡ length t.callbacks + t.room → new.size ≡ old.size → ((p : ℕ) (h : Held) → p ≢ place → held_at old p ≡ Some h → held_at new p ≡ Some h) → AreCalled new u
   called_less u kept table room size keeps =
       let back : (c : Callback) → Has (callbacks_of u.callbacks) c → Has (callbacks_of t.callbacks) c × (led_test new.pairs c ≡ true) = λ c has. kept_has (led_test new.pairs) t.callbacks c (subst (λ l. Has (callbacks_of l) c) kept has) in
       record {

@@ -11,7 +11,7 @@ use Rattle.nl_nand.specs.declared.geometry.Geometry.{Geometry}
 use Rattle.nl_iface.specs.Names.{has_stamp, leads}
 use Rattle.nl_iface.specs.Stored.{NamedPage, Stored, stored_in}
 use Rattle.nl_device.specs.Shown.{bytes_at, found_in, live_page, names_of}
-use Rattle.nl_pseg.specs.Segment.{HasSpare, InSegment, IsLive, IsPhysicalOf, Physical, SamePages, held_at, stamp_in}
+use Rattle.nl_pseg.specs.Segment.{CanSpareBlock, InSegment, IsLive, IsPhysicalOf, Physical, SameBlocksAndPages, held_at, stamp_in}
 use Rattle.nl_pseg.specs.declared.held.Held.{Held}
 use Rattle.nl_vseg.specs.Segment.{Segment}
 use Rattle.nl_device.specs.Kept.{KeptPages, forgotten}
@@ -44,7 +44,7 @@ named_in {geometry} {now} {shape} {vseg} {old} {new} has is first blocks size he
   physical_held = held ∙ has.physical_held;
 })
 
-pub named_segments : {geometry now : Geometry} {shape : Shape} {vseg : Segment} {old new : Physical} → HasSegments geometry shape vseg old → now ≡ geometry → SamePages old new → length new.held ≡ length old.held → HasSegments now shape vseg new
+pub named_segments : {geometry now : Geometry} {shape : Shape} {vseg : Segment} {old new : Physical} → HasSegments geometry shape vseg old → now ≡ geometry → SameBlocksAndPages old new → length new.held ≡ length old.held → HasSegments now shape vseg new
 named_segments has is same held = named_in has is same.same_first same.same_blocks same.same_size held
 
 -- what the scan found stays below a next stamp that rises
@@ -104,13 +104,13 @@ device_of f segments found stored live spare called rises stamps medium = record
 }
 
 pub device_with : {geometry now : Geometry} {tells : Type 0} {image c : Image} {shape : Shape} {vseg : Segment} {old new : Physical} {pending now_pending : PendingTable} {kept left : KeptPages} {next after : ℕ} → IsDevice geometry tells image shape vseg old pending kept next
-    → HasFound shape left after → (tells → IsFoundStored left (λ p. bytes_at (shape.vblocks * shape.pages) c p) (stored_in c)) → now ≡ geometry → SamePages old new → length new.held ≡ length old.held → HasLive new → HasSpareBlock new → AreCalled new now_pending → next ≤ after → ((p : ℕ) (h : Held) → held_at new p ≡ Some h → h.stamp < after)
+    → HasFound shape left after → (tells → IsFoundStored left (λ p. bytes_at (shape.vblocks * shape.pages) c p) (stored_in c)) → now ≡ geometry → SameBlocksAndPages old new → length new.held ≡ length old.held → HasLive new → HasSpareBlock new → AreCalled new now_pending → next ≤ after → ((p : ℕ) (h : Held) → held_at new p ≡ Some h → h.stamp < after)
     → (tells → IsOnMedium shape after c vseg new) → IsDevice now tells c shape vseg new now_pending left after
 device_with f found stored is same held live spare called rises stamps medium = device_of f (named_segments f.segments is same held) found stored live spare called rises stamps medium
 
 -- the medium, where the pages of the virtual segment are as before
 pub medium_of : {geometry now : Geometry} {image c : Image} {shape : Shape} {vseg : Segment} {old new : Physical} {pending : PendingTable} {kept : KeptPages} {next after : ℕ} {tells : Type 0} → IsDevice geometry tells image shape vseg old pending kept next → tells
-    → HasSegments now shape vseg new → ImageOf now c → HasLive new → ((p : ℕ) → p < old.first * old.size → page_at c p ≡ page_at image p) → IsPhysicalOf c new → next ≤ after → HasSpareBlock new → HasSpare c new → NamesHold shape (names_of new) (stored_in c)
+    → HasSegments now shape vseg new → ImageOf now c → HasLive new → ((p : ℕ) → p < old.first * old.size → page_at c p ≡ page_at image p) → IsPhysicalOf c new → next ≤ after → HasSpareBlock new → CanSpareBlock c new → NamesHold shape (names_of new) (stored_in c)
     → ((p : ℕ) (page : NamedPage) → (stored_in c).named p ≡ Some page → page.stamp + 1 ≤ after) → IsOnMedium shape after c vseg new
 medium_of {geometry} {now} {image} {c} {shape} {vseg} {old} {new} {pending} {kept} {next} {after} f t segments fits live low physical rises spare on names named =
     let below : (p : ℕ) → p < shape.vblocks * shape.pages → page_at c p ≡ page_at image p = λ p lt. low p (subst (λ n. p < n) (sym (begins f.segments)) lt) in
@@ -122,7 +122,7 @@ medium_of {geometry} {now} {image} {c} {shape} {vseg} {old} {new} {pending} {kep
     named spare on names
 
 pub medium_with : {geometry now : Geometry} {image c : Image} {shape : Shape} {vseg : Segment} {old new : Physical} {pending : PendingTable} {kept : KeptPages} {next after : ℕ} {tells : Type 0} → IsDevice geometry tells image shape vseg old pending kept next → tells
-    → now ≡ geometry → SamePages old new → length new.held ≡ length old.held → ImageOf now c → HasLive new → ((p : ℕ) → p < old.first * old.size → page_at c p ≡ page_at image p) → IsPhysicalOf c new → next ≤ after → HasSpareBlock new → HasSpare c new → NamesHold shape (names_of new) (stored_in c)
+    → now ≡ geometry → SameBlocksAndPages old new → length new.held ≡ length old.held → ImageOf now c → HasLive new → ((p : ℕ) → p < old.first * old.size → page_at c p ≡ page_at image p) → IsPhysicalOf c new → next ≤ after → HasSpareBlock new → CanSpareBlock c new → NamesHold shape (names_of new) (stored_in c)
     → ((p : ℕ) (page : NamedPage) → (stored_in c).named p ≡ Some page → page.stamp + 1 ≤ after) → IsOnMedium shape after c vseg new
 medium_with f t is same held fits live low physical rises spare on names named = medium_of f t (named_segments f.segments is same held) fits live low physical rises spare on names named
 

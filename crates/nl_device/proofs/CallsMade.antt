@@ -12,10 +12,10 @@ use Rattle.nl_iface.specs.Names.{Has}
 use Rattle.nl_iface.specs.declared.Callback.{Callback}
 use Rattle.nl_pseg.specs.Segment.{Physical, held_at}
 use Rattle.nl_pseg.specs.declared.held.Held.{Held}
-use Rattle.nl_device.specs.Callbacks.{callbacks_of, handled_in, held_by, names_with}
-use Rattle.nl_device.specs.Kept.{IsKept, KeptPages}
+use Rattle.nl_device.specs.Callbacks.{callbacks_of, handled_in, held_of_callback, names_with}
+use Rattle.nl_device.specs.Kept.{AreKeptPages, KeptPages}
 use Rattle.nl_device.specs.Posting.{Posts}
-use Rattle.nl_device.specs.Retain.{CanRetain, HasCalled, HasLoaded, HasPosted, IsCalled, IsFresh, IsIdle, IsSegmentFor, Loads, call_for, calls_beside, calls_for, held_for, is_moved, moved_among, no_tag, retained_at, spare_for}
+use Rattle.nl_device.specs.Retain.{CanRetain, HasCalled, HasLoaded, HasPosted, IsCalled, IsFreshSegment, IsEmptyPending, IsSegmentFor, LoadsPointer, call_for, calls_beside, calls_for, held_for, is_moved, moved_among, no_tag, retained_at, spare_for}
 use Rattle.nl_device.specs.State.{at_has}
 use Rattle.nl_device.specs.declared.kept.copies.Copies.{Copies}
 use Rattle.nl_device.specs.declared.kept.page.KeptPage.{KeptPage}
@@ -66,7 +66,7 @@ map_last : (xs ys : List Callback) → map new_entry (xs ++ ys) ≡ map new_entr
 map_last [] ys = refl
 map_last (x ∷ xs) ys = ap (λ l. new_entry x ∷ l) (map_last xs ys)
 
-pub called_none : (kept : KeptPages) (pointers : List Pointer) (seg : Physical) (t : PendingTable) → IsIdle kept t → t.posted < 2 ^ 64 → HasCalled kept pointers 0 seg t t
+pub called_none : (kept : KeptPages) (pointers : List Pointer) (seg : Physical) (t : PendingTable) → IsEmptyPending kept t → t.posted < 2 ^ 64 → HasCalled kept pointers 0 seg t t
 unfolding calls_beside
 called_none kept pointers seg t idle fits =
     let count = ap (λ (l : List Entry). length l) idle.empty in
@@ -83,11 +83,11 @@ called_none kept pointers seg t idle fits =
       in_order = λ few. idle.empty;
     }
 
-module _ (kept : KeptPages) (copies : BTreeMap ℕ Copies) (pointers : List Pointer) (is : IsKept kept copies) (can : CanRetain kept pointers) (at : ℕ) (p : Pointer) (old seg new : Physical) (t_old t now : PendingTable)
-    (fresh : IsFresh old) (first : IsSegmentFor kept old) (loaded : HasLoaded kept pointers at old seg) (called : HasCalled kept pointers at seg t_old t) (here : slice_get pointers at ≡ Some p) (loads : Loads kept (retained_at kept pointers p) p seg new)
+module _ (kept : KeptPages) (copies : BTreeMap ℕ Copies) (pointers : List Pointer) (is : AreKeptPages kept copies) (can : CanRetain kept pointers) (at : ℕ) (p : Pointer) (old seg new : Physical) (t_old t now : PendingTable)
+    (fresh : IsFreshSegment old) (first : IsSegmentFor kept old) (loaded : HasLoaded kept pointers at old seg) (called : HasCalled kept pointers at seg t_old t) (here : slice_get pointers at ≡ Some p) (loads : LoadsPointer kept (retained_at kept pointers p) p seg new)
     (calls : IsCalled kept (spare_for kept pointers) p t now) where
   abbrev Of : ℕ → Physical → Callback → Type 0
-  Of n s c = (i : ℕ) × (q : Pointer) × (i < n) × (slice_get pointers i ≡ Some q) × (q.name ≡ c.before) × (retained_at kept pointers q ≢ q.name) × (held_at s (retained_at kept pointers q) ≡ held_by c)
+  Of n s c = (i : ℕ) × (q : Pointer) × (i < n) × (slice_get pointers i ≡ Some q) × (q.name ≡ c.before) × (retained_at kept pointers q ≢ q.name) × (held_at s (retained_at kept pointers q) ≡ held_of_callback c)
 
   -- the callbacks that were there before stay
   before : (c : Callback) → Has (callbacks_of t.callbacks) c → Of (at + 1) new c
@@ -149,7 +149,7 @@ module _ (kept : KeptPages) (copies : BTreeMap ℕ Copies) (pointers : List Poin
     put : now.callbacks ≡ insert t.callbacks (place_of t.callbacks number) (new_entry (call_for kept (spare_for kept pointers) number p))
     put = ap (λ (x : PendingTable). x.callbacks) posts.posted
 
-    told : held_for kept (retained_at kept pointers p) p ≡ held_by (call_for kept (spare_for kept pointers) number p)
+    told : held_for kept (retained_at kept pointers p) p ≡ held_of_callback (call_for kept (spare_for kept pointers) number p)
     told = by (find (λ (k : KeptPage). k.page == retained_at kept pointers p) kept.pages) (there_at kept copies pointers is can at p here).kept_page (there_at kept copies pointers is can at p here).found
       where
         by : (o : Option KeptPage) (k : KeptPage) → o ≡ Some k → option_map {U = Held} (λ (k : KeptPage). record { tag = k.tag; stamp = p.stamp }) o ≡ Some (record { tag = unwrap_or (option_map (λ (k : KeptPage). k.tag) o) no_tag; stamp = p.stamp })

@@ -15,13 +15,13 @@ use Rattle.nl_iface.specs.Stored.{stored_in}
 use Rattle.nl_nand.specs.Nand.{ImageOf}
 use Rattle.nl_nand.specs.declared.geometry.Geometry.{Geometry}
 use Rattle.nl_iface.specs.Counting.{EitherCounted}
-use Rattle.nl_pseg.specs.Cleaning.{Begins, CountedMove, IsChosen, IsMoved, MovesNone}
+use Rattle.nl_pseg.specs.Cleaning.{BeginsBlock, CountedMove, IsChosen, IsMoved, MovesNone}
 use Rattle.nl_pseg.specs.declared.cleaned.Copied.{Copied as Answer}
 use Rattle.nl_pseg.specs.declared.cleaned.Copied.TheVariants as the
-use Rattle.nl_pseg.specs.Effects.{Keeps, Places}
+use Rattle.nl_pseg.specs.Effects.{PreservesSegment, PlacesOnImage}
 use Rattle.nl_pseg.specs.Pages.{main_of}
 use Rattle.nl_pseg.specs.Segment.{Physical, held_at}
-use Rattle.nl_pseg.specs.Space.{IsWhole, left_of}
+use Rattle.nl_pseg.specs.Space.{IsWhole, left_in_victim}
 use Rattle.nl_pseg.specs.declared.held.Held.{Held}
 use Rattle.nl_vseg.specs.Segment.{Segment}
 use Rattle.nl_device.specs.Callbacks.{names_with}
@@ -48,7 +48,7 @@ module _ {geometry : Geometry} {tells : Type 0} {image : Image} {shape : Shape} 
   moved_bytes = bytes_from (shape.vblocks * shape.pages) image before (subst (λ n. n ≤ before) (begins f.segments) (f.live.in_segment before h was).0)
 
   -- each page as it was, or tried with a copy of a live one, or erased for it
-  pub copy_left : (old : Physical) → mid.held ≡ old.held → mid.pairs ≡ old.pairs → (c : Image) → ImageOf geometry c → Keeps mid image c ⊎ Places mid page h.tag h.stamp (main_of (page_at image before)) image c
+  pub copy_left : (old : Physical) → mid.held ≡ old.held → mid.pairs ≡ old.pairs → (c : Image) → ImageOf geometry c → PreservesSegment mid image c ⊎ PlacesOnImage mid page h.tag h.stamp (main_of (page_at image before)) image c
       → (p : ℕ) × (q : LivePage) × ((names_with old pending).live p ≡ Some q) × LeavesTried shape (names_with old pending) (λ r. bytes_at (shape.vblocks * shape.pages) image r) (copy_of q (bytes_at (shape.vblocks * shape.pages) image p)) (stored_in image) (stored_in c)
   copy_left old held pairs c c_fits either = (
     before,
@@ -60,7 +60,7 @@ module _ {geometry : Geometry} {tells : Type 0} {image : Image} {shape : Shape} 
   )
 
   -- once it was programmed, the copy is there
-  pub copy_there : (c : Image) → ImageOf geometry c → Places mid page h.tag h.stamp (main_of (page_at image before)) image c → (stored_in c).named page ≡ Some (record { tag = h.tag; stamp = h.stamp; bytes = bytes_at (shape.vblocks * shape.pages) image before })
+  pub copy_there : (c : Image) → ImageOf geometry c → PlacesOnImage mid page h.tag h.stamp (main_of (page_at image before)) image c → (stored_in c).named page ≡ Some (record { tag = h.tag; stamp = h.stamp; bytes = bytes_at (shape.vblocks * shape.pages) image before })
   copy_there c c_fits places =
       programmed_named geometry shape vseg mid image c f.segments fits c_fits f.live (f.medium t).physical_is page h.tag h.stamp _ (main_of (page_at image before)) places.shows places.takes
       ∙ (λ i. Some (record { tag = h.tag; stamp = h.stamp; bytes = sym moved_bytes i }))
@@ -70,7 +70,7 @@ pub not_copied : (old new : Physical) (taken : Space) → new.pairs ≡ old.pair
 not_copied old new taken pairs takes k = not_moved (space_of old) taken (space_of new) takes k (pairs_is new ∙ (ap (λ (l : List (ℕ × ℕ)). length l) pairs ∙ sym (pairs_is old)))
 
 -- the tables after a copy that failed
-pub failed_tables : (old mid new : Physical) (began : Bool) (pending : PendingTable) → OnTrue began ((block : ℕ) × IsChosen false old block × Begins block old mid) → OnFalse began (mid ≡ old) → MovesNone mid new → SameTables (names_with old pending) (names_with new pending)
+pub failed_tables : (old mid new : Physical) (began : Bool) (pending : PendingTable) → OnTrue began ((block : ℕ) × IsChosen false old block × BeginsBlock block old mid) → OnFalse began (mid ≡ old) → MovesNone mid new → SameTables (names_with old pending) (names_with new pending)
 failed_tables old mid new began pending begun none m =
     let tables = mid_tables old mid began begun none in
     record {
@@ -82,7 +82,7 @@ failed_tables old mid new began pending begun none m =
     }
 
 -- the numbers of the space after a copy that failed
-pub failed_space : (old mid new : Physical) (began : Bool) → OnTrue began ((block : ℕ) × IsChosen false old block × Begins block old mid) → OnFalse began (mid ≡ old) → MovesNone mid new → IsWhole mid → IsWhole new → (left_of mid ≡ 0 → ⊥) → TakesVictim (space_of old) (space_of mid) × Wasted (space_of mid) (space_of new)
+pub failed_space : (old mid new : Physical) (began : Bool) → OnTrue began ((block : ℕ) × IsChosen false old block × BeginsBlock block old mid) → OnFalse began (mid ≡ old) → MovesNone mid new → IsWhole mid → IsWhole new → (left_in_victim mid ≡ 0 → ⊥) → TakesVictim (space_of old) (space_of mid) × Wasted (space_of mid) (space_of new)
 failed_space old mid new began begun none m was is some =
     let one = in_hand mid was some in
     (takes_victim old mid began begun none one, wasted mid new m was is one)

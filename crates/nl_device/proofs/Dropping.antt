@@ -3,10 +3,10 @@ use Rattle.std.proofs.Common.{◌≡◌, ◌≢◌, inl, inr, ⊎_elim, ℕ, zer
 use Rattle.std.specs.Prelude.{Contains, filter}
 use Rattle.std.proofs.lemmas.Bool.{cases_Bool, cases_lt, cond-true, cond-false, le-leb, lt-leb, true≢false}
 use Rattle.std.proofs.lemmas.List.Edits.{length-remove}
-use Rattle.nl_callbacks.specs.Pending.{IsTable, PendingTable, entry_at, is_over, number_of, unacknowledged, without}
+use Rattle.nl_callbacks.specs.Pending.{ArePendingEntries, PendingTable, entry_at, is_over, number_of, unacknowledged, without}
 use Rattle.nl_callbacks.specs.declared.entry.Entry.{Entry}
 use Rattle.nl_field.specs.Live.{resolve}
-use Rattle.nl_iface.specs.Moves.{Acknowledges, IsOver}
+use Rattle.nl_iface.specs.Moves.{Acknowledges, IsHandledBy}
 use Rattle.nl_iface.specs.Names.{Has}
 use Rattle.nl_iface.specs.Space.{NamesGone, Space}
 use Rattle.nl_iface.specs.declared.Callback.{Callback}
@@ -86,7 +86,7 @@ module _ (old new : Physical) (t u : PendingTable) (at : ℕ) (within : at < len
       let i = at_once t.callbacks called.numbers.rising at r.0 within r.1 (ap (λ (x : Callback). x.number) r.2 ∙ same) in
       far (sym (ap (λ (x : Callback). x.before) r.2) ∙ ap (λ j. (entry_at t.callbacks j).callback.before) i)))))
 
-  pub called_dropped : IsTable u.callbacks u.posted → new.held ≡ old.held → new.size ≡ old.size → AreCalled new u
+  pub called_dropped : ArePendingEntries u.callbacks u.posted → new.held ≡ old.held → new.size ≡ old.size → AreCalled new u
   called_dropped table held size = record {
     numbers = table;
     told = λ c has.
@@ -206,7 +206,7 @@ acknowledged upto old new t u was called d kept posted = record {
       let r = d.called.each c.before o in
       let s = only r.0 r.1 in
       let same = called.once c r.0 has s.0 (sym r.2) in
-      s.1 (subst (IsOver (names_with old t) upto) same over));
+      s.1 (subst (IsHandledBy (names_with old t) upto) same over));
   ways = λ n off. ⊎_elim
       (λ own. to_itself new.pairs n (λ o.
       let h = was.pages.to_live n o.0 (d.fewer n o.0 o.1) in
@@ -236,7 +236,7 @@ acknowledged upto old new t u was called d kept posted = record {
         let h = was.pages.to_live n o.0 pair in
         was.pages.own n h.0 (ap (held_at old) (sym own ∙ same) ∙ h.1) (o.0, pair))
 
-    only : (c : Callback) → Has (callbacks_of u.callbacks) c → Has (callbacks_of t.callbacks) c × (IsOver (names_with old t) upto c → ⊥)
+    only : (c : Callback) → Has (callbacks_of u.callbacks) c → Has (callbacks_of t.callbacks) c × (IsHandledBy (names_with old t) upto c → ⊥)
     only c has =
         let r = left_in (λ e. not (is_over upto e.transaction)) t.callbacks c (subst (λ l. Has (callbacks_of l) c) kept has) in (
           subst (Has (callbacks_of t.callbacks)) r.2 (has_at t.callbacks r.0 r.1),
@@ -244,7 +244,7 @@ acknowledged upto old new t u was called d kept posted = record {
               true≢false (sym r.3 ∙ ap not (over_true upto (entry_at t.callbacks r.0).transaction over.0 (sym (handled_of r.0 r.1 c r.2) ∙ over.1) over.2)),
         )
 
-    stays : (c : Callback) → Has (callbacks_of t.callbacks) c → (IsOver (names_with old t) upto c → ⊥) → Has (callbacks_of u.callbacks) c
+    stays : (c : Callback) → Has (callbacks_of t.callbacks) c → (IsHandledBy (names_with old t) upto c → ⊥) → Has (callbacks_of u.callbacks) c
     stays c has off =
         let r = at_has t.callbacks c has in
         let un : is_over upto (entry_at t.callbacks r.0).transaction ≡ false = ⊎_elim

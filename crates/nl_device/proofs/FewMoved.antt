@@ -15,7 +15,7 @@ use Rattle.std.proofs.lemmas.Map.Steps.{length-le_from_distinct_below}
 use Rattle.std.proofs.lemmas.Option.{get_or_from_slice_get, slice_get_within}
 use Rattle.nl_field.specs.declared.pointer.Pointer.{Pointer}
 use Rattle.nl_device.specs.Kept.{KeptPages}
-use Rattle.nl_device.specs.Retain.{CanRetain, is_lost, is_moved, moved_among, placed_at, spare_for}
+use Rattle.nl_device.specs.Retain.{CanRetain, is_stale, is_moved, moved_among, placed_at, spare_for}
 use Rattle.nl_device.proofs.Counted.{bit}
 use Rattle.nl_device.proofs.Loading.{moved_why}
 use Rattle.nl_device.proofs.Lookups.{is_number, number_is}
@@ -109,7 +109,7 @@ few_moved kept pointers some can = by (spare_for kept pointers) refl can.spare
     by None none is = absurd (true≢false (sym is))
     by (Some block) found is =
         let lies = name_in kept.size block in
-        let split = either (is_moved kept (Some block)) (is_lost kept) lies pointers (λ p moved kept_stamp. not_not (lies p) (moved_why kept block p (away_from (placed_at kept (Some block) p) p.name moved) kept_stamp)) in
+        let split = either (is_moved kept (Some block)) (is_stale kept) lies pointers (λ p moved kept_stamp. not_not (lies p) (moved_why kept block p (away_from (placed_at kept (Some block) p) p.name moved) kept_stamp)) in
         let here = names_few kept.size block (filter lies pointers) some (AllPairs-filter (λ (p q : Pointer). p.name ≢ q.name) lies pointers can.names_differ) (filter_passes lies pointers) in
         let lost = can.few_lost in
         let same : length (moved_among kept pointers) ≡ length (filter (is_moved kept (Some block)) pointers) = ap (λ (o : Option ℕ). length (filter (is_moved kept o) pointers)) found in

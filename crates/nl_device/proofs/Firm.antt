@@ -14,9 +14,9 @@ use Rattle.nl_field.specs.declared.shape.Shape.{Shape}
 use Rattle.nl_field.specs.declared.spare.SpareRec.{SpareRec}
 use Rattle.nl_field.specs.declared.spare.SpareRec.TheVariants.{Virtual, Physical}
 use Rattle.nl_iface.specs.Stored.{Value, is_firm}
-use Rattle.nl_vseg.specs.Effects.{Keeps, Takes}
+use Rattle.nl_vseg.specs.Effects.{ImageKeepsMap, GainsValue}
 use Rattle.nl_vseg.specs.Maps.{Dominated}
-use Rattle.nl_vseg.specs.Pages.{Shows, ShowsBeside}
+use Rattle.nl_vseg.specs.Pages.{PageShows, ShowsBeside}
 use Rattle.nl_vseg.proofs.Members.{In, any_from, filter_to}
 use Rattle.nl_vseg.proofs.Newest.{from_pages, to_pages}
 use Rattle.nl_vseg.proofs.Places.{not_beside}
@@ -49,7 +49,7 @@ same_itself v s n = and_from (bytes_eq n n) (bytes_eq (spare_bytes (Virtual v s 
 -- what is shown under one stamp is one value
 abbrev pub FactsAgree : Shape → Image → Type 0
 FactsAgree shape image =
-    (v u s t : ℕ) (n m : List ℕ) → v < shape.vaddrs → u < shape.vaddrs → s ≡ t → Shows (shape.vblocks * shape.pages) image v s n → Shows (shape.vblocks * shape.pages) image u t m → same_value v s n u t m ≡ true
+    (v u s t : ℕ) (n m : List ℕ) → v < shape.vaddrs → u < shape.vaddrs → s ≡ t → PageShows (shape.vblocks * shape.pages) image v s n → PageShows (shape.vblocks * shape.pages) image u t m → same_value v s n u t m ≡ true
 
 abbrev agreed : List Readable → Bool
 agreed pages = list_all (λ r. list_all (λ q. not (stamp_on r == stamp_on q) || agree r q) pages) pages
@@ -83,7 +83,7 @@ of_facts image facts =
 -- Each value that the image shows of an address below the count is not the newest of its address, or shown outside the block too.
 abbrev Beside : Shape → Image → ℕ → Type 0
 Beside shape c spare =
-    (v t : ℕ) (n : List ℕ) → v < shape.vaddrs → Shows (shape.vblocks * shape.pages) c v t n
+    (v t : ℕ) (n : List ℕ) → v < shape.vaddrs → PageShows (shape.vblocks * shape.pages) c v t n
     → (s : ℕ) × (m : List ℕ) × (t ≤ s) × ShowsBeside shape.pages spare (shape.vblocks * shape.pages) c v s m
 
 pages_are : (image : Image) → (shape_of_image image).pages ≡ image.pages
@@ -158,7 +158,7 @@ dominating (Some x) t n d = (x, refl, ⊎_elim (λ less. omega (arith, less)) (�
 
 -- what the image shows is the map's value, or older
 abbrev AllDominated : Shape → (ℕ → Option Value) → Image → Type 0
-AllDominated shape map image = (v t : ℕ) (n : List ℕ) → v < shape.vaddrs → Shows (shape.vblocks * shape.pages) image v t n → Dominated (map v) t n
+AllDominated shape map image = (v t : ℕ) (n : List ℕ) → v < shape.vaddrs → PageShows (shape.vblocks * shape.pages) image v t n → Dominated (map v) t n
 
 module _ (shape : Shape) (map : ℕ → Option Value) (old c : Image) (old_is : shape_of_image old ≡ shape) (c_is : shape_of_image c ≡ shape) (some : 0 < shape.pages) (firm : is_firm old ≡ true) (none : AllDominated shape map old) where
   c_pages : 0 < c.pages
@@ -174,19 +174,19 @@ module _ (shape : Shape) (map : ℕ → Option Value) (old c : Image) (old_is : 
       (of_facts c (subst (λ (s : Shape). FactsAgree s c) (sym c_is) facts))
       (spare_there c spare c_pages (subst (λ (s : Shape). spare < s.vblocks) (sym c_is) (block_within spare shape.vblocks shape.pages some within)) (subst (λ (s : Shape). Beside s c spare) (sym c_is) beside))
 
-  pub keeps_firm : Keeps shape.pages (shape.vblocks * shape.pages) map old c → is_firm c ≡ true
+  pub keeps_firm : ImageKeepsMap shape.pages (shape.vblocks * shape.pages) map old c → is_firm c ≡ true
   keeps_firm k = made (λ v u s t n m v_in u_in same x y. old_agree v u s t n m v_in u_in same (k.no_more v s n x) (k.no_more u t m y)) k.spare k.within
       (λ v t n v_in shows.
       let d = dominating (map v) t n (none v t n v_in (k.no_more v t n shows)) in
       (d.0.0, d.0.1, d.2, k.there v d.0.0 d.0.1 d.1))
 
-  pub takes_firm : (v next : ℕ) (main : List ℕ) → ((u t : ℕ) (n : List ℕ) → Shows (shape.vblocks * shape.pages) old u t n → t < next) → Takes shape.pages (shape.vblocks * shape.pages) map v next main old c → is_firm c ≡ true
+  pub takes_firm : (v next : ℕ) (main : List ℕ) → ((u t : ℕ) (n : List ℕ) → PageShows (shape.vblocks * shape.pages) old u t n → t < next) → GainsValue shape.pages (shape.vblocks * shape.pages) map v next main old c → is_firm c ≡ true
   takes_firm v next main above k = made agree_all k.spare k.within beside
     where
       agree_all : FactsAgree shape c
       agree_all a b s t n m a_in b_in same x y = by (k.no_more a s n x) (k.no_more b t m y)
         where
-          by : Shows (shape.vblocks * shape.pages) old a s n ⊎ ((a ≡ v) × (s ≡ next) × (n ≡ main)) → Shows (shape.vblocks * shape.pages) old b t m ⊎ ((b ≡ v) × (t ≡ next) × (m ≡ main)) → same_value a s n b t m ≡ true
+          by : PageShows (shape.vblocks * shape.pages) old a s n ⊎ ((a ≡ v) × (s ≡ next) × (n ≡ main)) → PageShows (shape.vblocks * shape.pages) old b t m ⊎ ((b ≡ v) × (t ≡ next) × (m ≡ main)) → same_value a s n b t m ≡ true
           by (inl x) (inl y) = old_agree a b s t n m a_in b_in same x y
           by (inl x) (inr y) = let lt = above a s n x in let e = y.1 in absurd (omega (arith, lt, e, same))
           by (inr x) (inl y) = let lt = above b t m y in let e = x.1 in absurd (omega (arith, lt, e, same))
@@ -195,6 +195,6 @@ module _ (shape : Shape) (map : ℕ → Option Value) (old c : Image) (old_is : 
       beside : Beside shape c k.spare
       beside u t n u_in shows = by (k.no_more u t n shows)
         where
-          by : Shows (shape.vblocks * shape.pages) old u t n ⊎ ((u ≡ v) × (t ≡ next) × (n ≡ main)) → (s : ℕ) × (m : List ℕ) × (t ≤ s) × ShowsBeside shape.pages k.spare (shape.vblocks * shape.pages) c u s m
+          by : PageShows (shape.vblocks * shape.pages) old u t n ⊎ ((u ≡ v) × (t ≡ next) × (n ≡ main)) → (s : ℕ) × (m : List ℕ) × (t ≤ s) × ShowsBeside shape.pages k.spare (shape.vblocks * shape.pages) c u s m
           by (inl x) = let d = dominating (map u) t n (none u t n u_in x) in (d.0.0, d.0.1, d.2, k.there u d.0.0 d.0.1 d.1)
           by (inr x) = let e = x.1 in (next, main, omega (arith, e), subst (λ w. ShowsBeside shape.pages k.spare (shape.vblocks * shape.pages) c w next main) (sym x.0) k.new)

@@ -9,13 +9,13 @@ use Rattle.nl_field.specs.CrashStates.{LeavesOnly}
 use Rattle.nl_field.specs.declared.shape.Shape.{Shape}
 use Rattle.nl_nand.specs.Nand.{ImageOf}
 use Rattle.nl_nand.specs.declared.geometry.Geometry.{Geometry}
-use Rattle.nl_iface.specs.Stored.{NoneBeyond, Value, Shows as StoresMap, stored_in}
+use Rattle.nl_iface.specs.Stored.{NothingStoredBeyond, Value, ShowsMap as StoresMap, stored_in}
 use Rattle.nl_iface.proofs.Beyond.{stores_none_beyond}
 use Rattle.nl_vseg.specs.Maps.{Dominated}
-use Rattle.nl_vseg.specs.Pages.{Shows}
-use Rattle.nl_vseg.specs.Segment.{Fits as VirtualFits, SameSize, Segment}
+use Rattle.nl_vseg.specs.Pages.{PageShows}
+use Rattle.nl_vseg.specs.Segment.{FitsSegment as VirtualFits, SameSize, Segment}
 use Rattle.nl_pseg.specs.Pages.{shown_by}
-use Rattle.nl_pseg.specs.Seen.{Fits as PhysicalFits}
+use Rattle.nl_pseg.specs.Seen.{FitsPhysical as PhysicalFits}
 use Rattle.nl_pseg.specs.Segment.{Physical}
 use Rattle.nl_device.specs.Device.{HasSegments}
 use Rattle.nl_device.proofs.PhysicalPages.{named_of, named_at, named_low}
@@ -60,16 +60,16 @@ module _ (shape : Shape) (image : Image) (is : shape_of_image image ≡ shape) w
   named_below p below = named_low image p (subst (λ s. p < first_physical s) (sym is) below)
 
   pub stores_map : (map : ℕ → Option Value) (failed : ℕ → Value → Type 0)
-      → ((v s : ℕ) (main : List ℕ) → map v ≡ Some (s, main) → Shows (shape.vblocks * shape.pages) image v s main)
-      → ((v t : ℕ) (n : List ℕ) → Shows (shape.vblocks * shape.pages) image v t n → Dominated (map v) t n ⊎ failed v (t, n)) → StoresMap shape.vaddrs map failed (stored_in image)
+      → ((v s : ℕ) (main : List ℕ) → map v ≡ Some (s, main) → PageShows (shape.vblocks * shape.pages) image v s main)
+      → ((v t : ℕ) (n : List ℕ) → PageShows (shape.vblocks * shape.pages) image v t n → Dominated (map v) t n ⊎ failed v (t, n)) → StoresMap shape.vaddrs map failed (stored_in image)
   stores_map map failed there each =
-      subst (λ s. ((v t : ℕ) (n : List ℕ) → map v ≡ Some (t, n) → Shows (first_physical s) image v t n)
-      → ((v t : ℕ) (n : List ℕ) → Shows (first_physical s) image v t n → Dominated (map v) t n ⊎ failed v (t, n)) → StoresMap s.vaddrs map failed (stored_in image))
+      subst (λ s. ((v t : ℕ) (n : List ℕ) → map v ≡ Some (t, n) → PageShows (first_physical s) image v t n)
+      → ((v t : ℕ) (n : List ℕ) → PageShows (first_physical s) image v t n → Dominated (map v) t n ⊎ failed v (t, n)) → StoresMap s.vaddrs map failed (stored_in image))
       is (stores image map failed) there each
 
 -- nothing is stored beyond the last address
-pub beyond_in : (shape : Shape) (image : Image) → shape_of_image image ≡ shape → NoneBeyond shape.vaddrs (stored_in image)
-beyond_in shape image is = subst (λ (s : Shape). NoneBeyond s.vaddrs (stored_in image)) is (stores_none_beyond image)
+pub beyond_in : (shape : Shape) (image : Image) → shape_of_image image ≡ shape → NothingStoredBeyond shape.vaddrs (stored_in image)
+beyond_in shape image is = subst (λ (s : Shape). NothingStoredBeyond s.vaddrs (stored_in image)) is (stores_none_beyond image)
 
 -- the pages of the virtual segment are as before
 module _ (shape : Shape) (old c : Image) (is : shape_of_image old ≡ shape) (form : SameForm old c) where

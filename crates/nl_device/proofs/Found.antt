@@ -14,10 +14,10 @@ use Rattle.nl_field.specs.declared.seen.Seen.{Seen}
 use Rattle.nl_field.specs.declared.shape.Shape.{Shape}
 use Rattle.nl_field.specs.declared.spare.SpareRec.{SpareRec}
 use Rattle.nl_field.specs.declared.spare.SpareRec.TheVariants.{Virtual, Physical}
-use Rattle.nl_scan.specs.Tables.{IsTableOf, Table, greatest_stamp}
+use Rattle.nl_scan.specs.Tables.{IsTableOf, ScanTable, greatest_stamp}
 use Rattle.nl_field.proofs.ScanLists.{each as listed}
 use Rattle.nl_device.specs.Kept.{KeptPages, has_stamp, kept_from, kept_of_scan, kept_pages, place_among, spare_among, with_record}
-use Rattle.nl_device.specs.Retain.{is_lost, owns_name}
+use Rattle.nl_device.specs.Retain.{is_stale, owns_name}
 use Rattle.nl_device.specs.declared.kept.page.KeptPage.{KeptPage}
 use Rattle.nl_device.proofs.Gathered.{all_kept}
 
@@ -116,7 +116,7 @@ place_is shape seen spare p =
     (find_same low (λ page stamp. stamp == p.stamp && is_outside shape.pages spare page) seen i)
 
 -- a pointer is lost, and owns its name, as the list tells
-pub lost_is : (shape : Shape) (seen : List Seen) (p : Pointer) → is_lost (kept_of_scan shape seen) p ≡ is_lost_seen shape seen p
+pub lost_is : (shape : Shape) (seen : List Seen) (p : Pointer) → is_stale (kept_of_scan shape seen) p ≡ is_lost_seen shape seen p
 unfolding has_stamp holds_seen kept_pages physical_seen
 lost_is shape seen p = ap not (any_same (first_physical shape) (λ page stamp. page == p.name && stamp == p.stamp) seen)
 
@@ -137,6 +137,6 @@ pub record IsOf (image : Image) (kept : KeptPages) : Type 0 where
   pub size : kept.size ≡ image.pages
   pub pages : kept.pages ≡ filter_map (kept_from (first_physical (shape_of_image image))) (map (seen_of image) (readable_pages image))
 
-pub is_of : (image : Image) (t : Table) → IsTableOf image t → kept_pages (first_physical (shape_of_image image)) t.seen ≡ filter_map (kept_from (first_physical (shape_of_image image))) (map (seen_of image) (readable_pages image))
+pub is_of : (image : Image) (t : ScanTable) → IsTableOf image t → kept_pages (first_physical (shape_of_image image)) t.seen ≡ filter_map (kept_from (first_physical (shape_of_image image))) (map (seen_of image) (readable_pages image))
 unfolding kept_pages
 is_of image t is = ap (filter_map (kept_from (first_physical (shape_of_image image)))) (is.each_page ∙ listed image)

@@ -19,8 +19,8 @@ use Rattle.nl_pseg.specs.Space.{waiting}
 use Rattle.nl_pseg.specs.declared.held.Held.{Held}
 use Rattle.nl_device.specs.Callbacks.{AreCalled, names_with}
 use Rattle.nl_device.specs.Device.{HasSpareBlock, IsFoundStored}
-use Rattle.nl_device.specs.Kept.{IsKept, KeptPages, has_stamp}
-use Rattle.nl_device.specs.Retain.{CanRetain, HasCalled, HasLoaded, IsReopened, is_lost, owns_name, retained_at}
+use Rattle.nl_device.specs.Kept.{AreKeptPages, KeptPages, has_stamp}
+use Rattle.nl_device.specs.Retain.{CanRetain, HasCalled, HasLoaded, IsReopened, is_stale, owns_name, retained_at}
 use Rattle.nl_device.specs.Shown.{found_by_number, found_in, found_on, live_page, names_of}
 use Rattle.nl_device.specs.Space.{space_of}
 use Rattle.nl_device.specs.State.{held_of, old_or}
@@ -66,7 +66,7 @@ page_there pages n s has = by (find (λ k. k.page == n) pages) refl
     by None none = absurd (true≢false (sym has ∙ stamp_of_none pages n s none))
     by (Some k) some = (k, some)
 
-module _ (kept : KeptPages) (copies : BTreeMap ℕ Copies) (pointers : List Pointer) (is : IsKept kept copies) (can : CanRetain kept pointers) (old seg : Physical) (loaded : HasLoaded kept pointers (length pointers) old seg) where
+module _ (kept : KeptPages) (copies : BTreeMap ℕ Copies) (pointers : List Pointer) (is : AreKeptPages kept copies) (can : CanRetain kept pointers) (old seg : Physical) (loaded : HasLoaded kept pointers (length pointers) old seg) where
   within : (i : ℕ) (p : Pointer) → slice_get pointers i ≡ Some p → i < length pointers
   within i p here = slice_get_within pointers i p here
 
@@ -169,16 +169,16 @@ module _ (kept : KeptPages) (copies : BTreeMap ℕ Copies) (pointers : List Poin
         ap (λ (x : LivePage). x.stamp) (same_Some (record { tag = (there_at kept copies pointers is can i p here).kept_page.tag; stamp = p.stamp }) page (ap live_page (sym (held_there i p here) ∙ ap (held_at seg) (sym place)) ∙ live))
 
     Stale : Pointer → Type 0
-    Stale p = Has (map (λ (q : Pointer). q.name) (filter (is_lost kept) pointers)) p.name
+    Stale p = Has (map (λ (q : Pointer). q.name) (filter (is_stale kept) pointers)) p.name
 
-    listed_stale : (xs : List Pointer) (i : ℕ) (p : Pointer) → slice_get xs i ≡ Some p → is_lost kept p ≡ true → Has (map (λ (q : Pointer). q.name) (filter (is_lost kept) xs)) p.name
+    listed_stale : (xs : List Pointer) (i : ℕ) (p : Pointer) → slice_get xs i ≡ Some p → is_stale kept p ≡ true → Has (map (λ (q : Pointer). q.name) (filter (is_stale kept) xs)) p.name
     listed_stale [] i p here lost = absurd (none-some p here)
     listed_stale (x ∷ xs) zero p here lost =
         let same = same_Some x p here in
-        subst (λ (l : List Pointer). Has (map (λ (q : Pointer). q.name) l) p.name) (sym (cond-true (is_lost kept x) (x ∷ filter (is_lost kept) xs) (filter (is_lost kept) xs) (ap (is_lost kept) same ∙ lost))) (inl (ap (λ (q : Pointer). q.name) same))
-    listed_stale (x ∷ xs) (suc i) p here lost = by (is_lost kept x) (listed_stale xs i p here lost)
+        subst (λ (l : List Pointer). Has (map (λ (q : Pointer). q.name) l) p.name) (sym (cond-true (is_stale kept x) (x ∷ filter (is_stale kept) xs) (filter (is_stale kept) xs) (ap (is_stale kept) same ∙ lost))) (inl (ap (λ (q : Pointer). q.name) same))
+    listed_stale (x ∷ xs) (suc i) p here lost = by (is_stale kept x) (listed_stale xs i p here lost)
       where
-        by : (b : Bool) → Has (map (λ (q : Pointer). q.name) (filter (is_lost kept) xs)) p.name → Has (map (λ (q : Pointer). q.name) (cond b (x ∷ filter (is_lost kept) xs) (filter (is_lost kept) xs))) p.name
+        by : (b : Bool) → Has (map (λ (q : Pointer). q.name) (filter (is_stale kept) xs)) p.name → Has (map (λ (q : Pointer). q.name) (cond b (x ∷ filter (is_stale kept) xs) (filter (is_stale kept) xs))) p.name
         by true has = inr has
         by false has = has
 
@@ -194,8 +194,8 @@ module _ (kept : KeptPages) (copies : BTreeMap ℕ Copies) (pointers : List Poin
           (λ none. inl (subst (λ n. c.named n ≡ None) one.4 (named_none one.0 one.1 one.3 none)))
           (cases_Bool (has_stamp kept.pages one.1.name one.1.stamp)))
           (old_or seg.pairs name);
-      stale = map (λ (q : Pointer). q.name) (filter (is_lost kept) pointers);
-      few = let few = can.few_lost in let count = length-map (filter (is_lost kept) pointers) (λ (q : Pointer). q.name) in omega (arith, few, count, size);
+      stale = map (λ (q : Pointer). q.name) (filter (is_stale kept) pointers);
+      few = let few = can.few_lost in let count = length-map (filter (is_stale kept) pointers) (λ (q : Pointer). q.name) in omega (arith, few, count, size);
       at_names = λ name page live. ⊎_elim
           (λ own. inl (at_place name page (ap (names_of seg).live (sym own) ∙ live)))
           (λ pair.
@@ -203,7 +203,7 @@ module _ (kept : KeptPages) (copies : BTreeMap ℕ Copies) (pointers : List Poin
           let stamp = stamp_is name page live one.0 one.1 one.3 one.4 in
           ⊎_elim
           (λ has. inl (subst (λ n. HoldsStamp c n page.stamp) one.4 (subst (HoldsStamp c one.1.name) stamp (named_there one.1 has))))
-          (λ none. inr (subst (λ n. Has (map (λ (q : Pointer). q.name) (filter (is_lost kept) pointers)) n) one.4 (listed_stale pointers one.0 one.1 one.3 (ap not none))))
+          (λ none. inr (subst (λ n. Has (map (λ (q : Pointer). q.name) (filter (is_stale kept) pointers)) n) one.4 (listed_stale pointers one.0 one.1 one.3 (ap not none))))
           (cases_Bool (has_stamp kept.pages one.1.name one.1.stamp)))
           (old_or seg.pairs name);
     }

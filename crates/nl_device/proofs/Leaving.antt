@@ -13,7 +13,7 @@ use Rattle.nl_iface.specs.Left.{HeldBeside, HoldsLive, HoldsStamp, LeavesPages}
 use Rattle.nl_iface.specs.Names.{Has, LivePage, Names, led}
 use Rattle.nl_iface.specs.Stored.{Stored, stored_in}
 use Rattle.nl_pseg.specs.Pages.{shown_by}
-use Rattle.nl_pseg.specs.Segment.{HasSpare, InVictim, IsDead, KeepsBlock, Physical, held_at, is_kept}
+use Rattle.nl_pseg.specs.Segment.{CanSpareBlock, InVictim, IsDead, KeepsBlock, Physical, held_at, is_kept}
 use Rattle.nl_pseg.specs.Space.{IsWhole}
 use Rattle.nl_pseg.specs.declared.held.Held.{Held}
 use Rattle.nl_vseg.specs.Segment.{Segment}
@@ -73,7 +73,7 @@ victim_from {geometry} {shape} {vseg} {seg} segments spare q is =
     omega (arith, le, most, begin)
 
 -- The spare block of the segment can be done without, where the place of each live page holds it.
-pub leaves_pages : {geometry : Geometry} {shape : Shape} {vseg : Segment} {seg : Physical} {image : Image} → HasSegments geometry shape vseg seg → ImageOf geometry image → HasLive seg → HasSpareBlock seg → HasSpare image seg → (bytes : ℕ → List ℕ) → HoldsLive (names_of seg).live bytes (stored_in image) → NamesHold shape (names_of seg) (stored_in image)
+pub leaves_pages : {geometry : Geometry} {shape : Shape} {vseg : Segment} {seg : Physical} {image : Image} → HasSegments geometry shape vseg seg → ImageOf geometry image → HasLive seg → HasSpareBlock seg → CanSpareBlock image seg → (bytes : ℕ → List ℕ) → HoldsLive (names_of seg).live bytes (stored_in image) → NamesHold shape (names_of seg) (stored_in image)
     → LeavesPages shape (names_of seg) bytes (stored_in image)
 leaves_pages {geometry} {shape} {vseg} {seg} {image} segments fit live spare on bytes holds names = record {
   spare = on.block;
@@ -100,7 +100,7 @@ leaves_pages {geometry} {shape} {vseg} {seg} {image} segments fit live spare on 
         )
 
 -- the spare block stays, where live pages and those of the victim are as they were
-pub spare_kept : (seg : Physical) (old c : Image) → ((p : ℕ) (h : Held) → held_at seg p ≡ Some h → page_at c p ≡ page_at old p) → ((q : ℕ) → InVictim seg q → page_at c q ≡ page_at old q) → HasSpare old seg → HasSpare c seg
+pub spare_kept : (seg : Physical) (old c : Image) → ((p : ℕ) (h : Held) → held_at seg p ≡ Some h → page_at c p ≡ page_at old p) → ((q : ℕ) → InVictim seg q → page_at c q ≡ page_at old q) → CanSpareBlock old seg → CanSpareBlock c seg
 spare_kept seg old c live victim s = record {
   block = s.block;
   from = s.from;
@@ -111,7 +111,7 @@ spare_kept seg old c live victim s = record {
 
 -- pages but dead ones are as they were
 module _ (seg : Physical) (old c : Image) (either : (p : ℕ) → (page_at c p ≡ page_at old p) ⊎ IsDead seg p) where
-  pub spare_either : HasSpare old seg → HasSpare c seg
+  pub spare_either : CanSpareBlock old seg → CanSpareBlock c seg
   spare_either s = spare_kept seg old c
       (λ p h has. ⊎_elim (λ same. same) (λ dead. absurd (none-some h (sym dead.dead ∙ has))) (either p))
       (λ q is. ⊎_elim (λ same. same) (λ dead. absurd (dead.apart is)) (either q))
@@ -157,7 +157,7 @@ module _ (old new : Physical) (was : IsWhole old) (fewer : (n t : ℕ) → Conta
           (less t h.0 h.1)
 
 -- a segment that writes to no block, with none in hand, has a block that holds nothing
-pub spare_idle : (seg : Physical) (image : Image) → IsWhole seg → KeepsBlock seg → seg.victim ≡ None → seg.left ≡ 0 → HasSpare image seg
+pub spare_idle : (seg : Physical) (image : Image) → IsWhole seg → KeepsBlock seg → seg.victim ≡ None → seg.left ≡ 0 → CanSpareBlock image seg
 spare_idle seg image whole keeps none left =
     let kept : is_kept seg keeps.block ≡ true = ⊎_elim (λ is. is) (λ hand. absurd (none-some keeps.block (sym none ∙ hand))) keeps.kept in
     record {

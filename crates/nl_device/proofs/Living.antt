@@ -7,7 +7,7 @@ use Rattle.std.specs.Prelude.{Contains}
 use Rattle.nl_field.specs.declared.pointer.Tag.{Tag}
 use Rattle.nl_iface.specs.Names.{LivePage, with_page, without_page}
 use Rattle.nl_pseg.specs.Space.{IsWhole, waiting}
-use Rattle.nl_pseg.specs.Segment.{InSegment, Physical, SamePages, TakenAsErased, held_at}
+use Rattle.nl_pseg.specs.Segment.{InSegment, Physical, SameBlocksAndPages, TakenAsErased, held_at}
 use Rattle.nl_pseg.specs.declared.held.Held.{Held}
 use Rattle.nl_device.specs.Device.{HasLive}
 use Rattle.nl_device.specs.Shown.{live_page}
@@ -59,11 +59,11 @@ clear_held held place q h below is = elim (cases_eq q place) [
 ]
 
 -- the pages are where they were
-pub moved_in : (old new : Physical) → SamePages old new → (p : ℕ) → InSegment old p → InSegment new p
+pub moved_in : (old new : Physical) → SameBlocksAndPages old new → (p : ℕ) → InSegment old p → InSegment new p
 moved_in old new same p is = (subst (λ n. n ≤ p) (sym (λ i. same.same_first i * same.same_size i)) is.0, subst (λ n. p < n) (sym (λ i. same.same_blocks i * same.same_size i)) is.1)
 
 -- a new page, whose stamp is new
-pub live_more : (old new : Physical) (name next : ℕ) (tag : Tag) → HasLive old → SamePages old new → ((p : ℕ) → TakenAsErased new p → InSegment new p) → InSegment old name → name < length old.held
+pub live_more : (old new : Physical) (name next : ℕ) (tag : Tag) → HasLive old → SameBlocksAndPages old new → ((p : ℕ) → TakenAsErased new p → InSegment new p) → InSegment old name → name < length old.held
     → ((p : ℕ) (h : Held) → held_at old p ≡ Some h → h.stamp < next) → new.held ≡ set old.held name (Some (record { tag = tag; stamp = next })) → HasLive new
 live_more old new name next tag live same blank within below fresh is = record {
   in_segment = λ p h has. moved_in old new same p (⊎_elim (λ here. subst (InSegment old) (sym here.0) within) (λ was. live.in_segment p h was.1) (split p h has));
@@ -84,7 +84,7 @@ live_more old new name next tag live same blank within below fresh is = record {
     split p h has = set_held old.held name (record { tag = tag; stamp = next }) p h below (ap (λ (l : List (Option Held)). get_or l p None) (sym is) ∙ has)
 
 -- one page less
-pub live_less : (old new : Physical) (place : ℕ) → HasLive old → SamePages old new → ((p : ℕ) → TakenAsErased new p → InSegment new p) → place < length old.held → new.held ≡ set old.held place None → HasLive new
+pub live_less : (old new : Physical) (place : ℕ) → HasLive old → SameBlocksAndPages old new → ((p : ℕ) → TakenAsErased new p → InSegment new p) → place < length old.held → new.held ≡ set old.held place None → HasLive new
 live_less old new place live same blank below is = record {
   in_segment = λ p h has. moved_in old new same p (live.in_segment p h (split p h has).1);
   blank_in = blank;
@@ -95,7 +95,7 @@ live_less old new place live same blank below is = record {
     split p h has = clear_held old.held place p h below (ap (λ (l : List (Option Held)). get_or l p None) (sym is) ∙ has)
 
 -- what is live where the pages are the same
-pub live_kept : (old new : Physical) → HasLive old → SamePages old new → ((p : ℕ) → TakenAsErased new p → InSegment new p) → new.held ≡ old.held → HasLive new
+pub live_kept : (old new : Physical) → HasLive old → SameBlocksAndPages old new → ((p : ℕ) → TakenAsErased new p → InSegment new p) → new.held ≡ old.held → HasLive new
 live_kept old new live same blank is = record {
   in_segment = λ p h has. moved_in old new same p (live.in_segment p h (split p h has));
   blank_in = blank;
@@ -119,7 +119,7 @@ pub swap_held : (held : List (Option Held)) (name place : ℕ) (x : Held) (q : �
 swap_held held name place x q h below within is = set_held held name x q h below (clear_held (set held name (Some x)) place q h (subst (λ n. place < n) (sym (length-set held name (Some x))) within) is).1
 
 -- a new page in place of another one
-pub live_swap : (old new : Physical) (name place next : ℕ) (tag : Tag) → HasLive old → SamePages old new → ((p : ℕ) → TakenAsErased new p → InSegment new p) → InSegment old name → name < length old.held → place < length old.held
+pub live_swap : (old new : Physical) (name place next : ℕ) (tag : Tag) → HasLive old → SameBlocksAndPages old new → ((p : ℕ) → TakenAsErased new p → InSegment new p) → InSegment old name → name < length old.held → place < length old.held
     → ((p : ℕ) (h : Held) → held_at old p ≡ Some h → h.stamp < next) → new.held ≡ set (set old.held name (Some (record { tag = tag; stamp = next }))) place None → HasLive new
 live_swap old new name place next tag live same blank within below there fresh is =
     let middle : Physical = record new { held = set old.held name (Some (record { tag = tag; stamp = next })) } in

@@ -9,8 +9,8 @@ use Rattle.std.proofs.lemmas.Option.{none-some, same_Some}
 use Rattle.nl_field.specs.Space.{is_outside}
 use Rattle.nl_field.specs.declared.pointer.Pointer.{Pointer}
 use Rattle.nl_pseg.specs.Segment.{InSegment, Physical}
-use Rattle.nl_device.specs.Kept.{IsKept, IsOfSegment, KeptPages, has_stamp, is_at_name, place_among}
-use Rattle.nl_device.specs.Retain.{IsSegmentFor, is_lost, owns_name, placed_at}
+use Rattle.nl_device.specs.Kept.{AreKeptPages, IsOfSegment, KeptPages, has_stamp, is_at_name, place_among}
+use Rattle.nl_device.specs.Retain.{IsSegmentFor, is_stale, owns_name, placed_at}
 use Rattle.nl_device.specs.declared.kept.copies.Copies.{Copies}
 use Rattle.nl_device.specs.declared.kept.page.KeptPage.{KeptPage}
 use Rattle.nl_device.proofs.Alone.{any_one, both, found_passes}
@@ -26,7 +26,7 @@ pub record IsThere (kept : KeptPages) (spare : Option ℕ) (p : Pointer) (page :
   pub of : IsOfSegment kept.first kept.count kept.size kept_page
   pub outside : is_outside kept.size spare page ≡ true
 
-at_name : (kept : KeptPages) (copies : BTreeMap ℕ Copies) (spare : Option ℕ) (p : Pointer) → IsKept kept copies → is_at_name kept spare p ≡ true → IsThere kept spare p p.name
+at_name : (kept : KeptPages) (copies : BTreeMap ℕ Copies) (spare : Option ℕ) (p : Pointer) → AreKeptPages kept copies → is_at_name kept spare p ≡ true → IsThere kept spare p p.name
 unfolding has_stamp
 at_name kept copies spare p is at = by (find (λ k. k.page == p.name) kept.pages) refl
   where
@@ -44,7 +44,7 @@ at_name kept copies spare p is at = by (find (λ k. k.page == p.name) kept.pages
         }
 
 -- the first page of the stamp outside the block
-elsewhere : (kept : KeptPages) (copies : BTreeMap ℕ Copies) (spare : Option ℕ) (p : Pointer) (page : ℕ) → IsKept kept copies → least kept.size spare kept.pages p.stamp ≡ Some page → IsThere kept spare p page
+elsewhere : (kept : KeptPages) (copies : BTreeMap ℕ Copies) (spare : Option ℕ) (p : Pointer) (page : ℕ) → AreKeptPages kept copies → least kept.size spare kept.pages p.stamp ≡ Some page → IsThere kept spare p page
 elsewhere kept copies spare p page is place = by (find (λ k. k.stamp == p.stamp && is_outside kept.size spare k.page) kept.pages) refl place
   where
     by : (o : Option KeptPage) → find (λ k. k.stamp == p.stamp && is_outside kept.size spare k.page) kept.pages ≡ o → option_map (λ (k : KeptPage). k.page) o ≡ Some page → IsThere kept spare p page
@@ -62,7 +62,7 @@ elsewhere kept copies spare p page is place = by (find (λ k. k.stamp == p.stamp
           outside = ap (is_outside kept.size spare) (sym here) ∙ parts.1;
         }
 
-pub there : (kept : KeptPages) (copies : BTreeMap ℕ Copies) (spare : Option ℕ) (p : Pointer) (page : ℕ) → IsKept kept copies → place_among kept spare p ≡ Some page → IsThere kept spare p page
+pub there : (kept : KeptPages) (copies : BTreeMap ℕ Copies) (spare : Option ℕ) (p : Pointer) (page : ℕ) → AreKeptPages kept copies → place_among kept spare p ≡ Some page → IsThere kept spare p page
 unfolding place_among
 there kept copies spare p page is place = ⊎_elim
     (λ yes. subst (IsThere kept spare p) (same_Some p.name page (sym (cond-true (is_at_name kept spare p) (Some p.name) (least kept.size spare kept.pages p.stamp) yes) ∙ place)) (at_name kept copies spare p is yes))
@@ -83,7 +83,7 @@ place_is kept spare p some = by (place_among kept spare p) some
     by (Some page) is = refl
 
 -- where the place is not the name, the named page does not have the stamp, or lies in the spare block
-pub moved_why : (kept : KeptPages) (block : ℕ) (p : Pointer) → (placed_at kept (Some block) p ≡ p.name → ⊥) → is_lost kept p ≡ false → is_outside kept.size (Some block) p.name ≡ false
+pub moved_why : (kept : KeptPages) (block : ℕ) (p : Pointer) → (placed_at kept (Some block) p ≡ p.name → ⊥) → is_stale kept p ≡ false → is_outside kept.size (Some block) p.name ≡ false
 unfolding place_among
 moved_why kept block p away found = ⊎_elim
     (λ yes. absurd (away (placed kept (Some block) p p.name (cond-true (is_at_name kept (Some block) p) (Some p.name) (least kept.size (Some block) kept.pages p.stamp) (stays (has_stamp kept.pages p.name p.stamp) (is_outside kept.size (Some block) p.name) found yes)))))
@@ -95,7 +95,7 @@ moved_why kept block p away found = ⊎_elim
     stays false b has is = absurd (true≢false has)
 
 -- a name that is owned names a page of the pointer's stamp, where it names one that was found
-pub owned : (kept : KeptPages) (copies : BTreeMap ℕ Copies) (p : Pointer) (k : KeptPage) → IsKept kept copies → owns_name kept p ≡ true → find (λ k. k.page == p.name) kept.pages ≡ Some k → k.stamp ≡ p.stamp
+pub owned : (kept : KeptPages) (copies : BTreeMap ℕ Copies) (p : Pointer) (k : KeptPage) → AreKeptPages kept copies → owns_name kept p ≡ true → find (λ k. k.page == p.name) kept.pages ≡ Some k → k.stamp ≡ p.stamp
 unfolding has_stamp
 owned kept copies p k is owns found = ⊎_elim
     (λ has. number_is k.stamp p.stamp (sym (stamp_of_found kept.pages p.name p.stamp k is.rising found) ∙ has))
@@ -105,7 +105,7 @@ owned kept copies p k is owns found = ⊎_elim
     absurd (true≢false (sym owns ∙ (λ i. other i || not (listed i)))))
     (cases_Bool (list_any (λ k. k.page == p.name && k.stamp == p.stamp) kept.pages))
 
-pub in_segment : (kept : KeptPages) (copies : BTreeMap ℕ Copies) (spare : Option ℕ) (p : Pointer) (page : ℕ) (seg : Physical) → IsKept kept copies → IsSegmentFor kept seg → IsThere kept spare p page → InSegment seg page
+pub in_segment : (kept : KeptPages) (copies : BTreeMap ℕ Copies) (spare : Option ℕ) (p : Pointer) (page : ℕ) (seg : Physical) → AreKeptPages kept copies → IsSegmentFor kept seg → IsThere kept spare p page → InSegment seg page
 in_segment kept copies spare p page seg is same t =
     let low : kept.first * kept.size ≤ t.kept_page.page = (le-div_iff_mul-le {k = kept.size} {x = kept.first} {y = t.kept_page.page} is.some).0 t.of.from_first in
     let high : t.kept_page.page < (kept.first + kept.count) * kept.size = (div-lt_iff_lt-mul {k = kept.size} {x = t.kept_page.page} {y = kept.first + kept.count} is.some).0 t.of.to_last in (

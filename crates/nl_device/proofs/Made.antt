@@ -8,8 +8,8 @@ use Rattle.nl_nand.specs.declared.geometry.Geometry.{Geometry}
 use Rattle.nl_iface.specs.Left.{HoldsLive}
 use Rattle.nl_iface.specs.Stored.{NamedPage, stored_in}
 use Rattle.nl_pseg.specs.Pages.{main_of}
-use Rattle.nl_pseg.specs.Segment.{HasSpare, IsPhysicalOf, Physical, held_at}
-use Rattle.nl_vseg.specs.Pages.{Shows}
+use Rattle.nl_pseg.specs.Segment.{CanSpareBlock, IsPhysicalOf, Physical, held_at}
+use Rattle.nl_vseg.specs.Pages.{PageShows}
 use Rattle.nl_vseg.specs.Places.{map_of}
 use Rattle.nl_vseg.specs.Segment.{IsSegmentOf, Segment}
 use Rattle.nl_device.specs.Device.{HasLive, HasSegments, HasSpareBlock, IsOnMedium}
@@ -34,8 +34,8 @@ live_held {geometry} {shape} {vseg} {pseg} {image} segments fit live is p page h
 
 pub made_medium : {geometry : Geometry} {shape : Shape} {vseg : Segment} {pseg : Physical} {image : Image} {next : ℕ} → HasSegments geometry shape vseg pseg → ImageOf geometry image → HasLive pseg
     → IsSegmentOf image vseg → IsPhysicalOf image pseg
-    → ((v s : ℕ) (main : List ℕ) → map_of vseg.places image v ≡ Some (s, main) → Shows (shape.vblocks * shape.pages) image v s main)
-    → ((v t : ℕ) (n : List ℕ) → Shows (shape.vblocks * shape.pages) image v t n → t < next) → ((p : ℕ) (page : NamedPage) → (stored_in image).named p ≡ Some page → page.stamp + 1 ≤ next) → HasSpareBlock pseg → HasSpare image pseg → NamesHold shape (names_of pseg) (stored_in image) → IsOnMedium shape next image vseg pseg
+    → ((v s : ℕ) (main : List ℕ) → map_of vseg.places image v ≡ Some (s, main) → PageShows (shape.vblocks * shape.pages) image v s main)
+    → ((v t : ℕ) (n : List ℕ) → PageShows (shape.vblocks * shape.pages) image v t n → t < next) → ((p : ℕ) (page : NamedPage) → (stored_in image).named p ≡ Some page → page.stamp + 1 ≤ next) → HasSpareBlock pseg → CanSpareBlock image pseg → NamesHold shape (names_of pseg) (stored_in image) → IsOnMedium shape next image vseg pseg
 made_medium {geometry} {shape} {vseg} {pseg} {image} {next} segments fit live virtual_is physical_is there below named spare on names = record {
   virtual_is = virtual_is;
   physical_is = physical_is;

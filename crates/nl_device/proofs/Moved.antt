@@ -8,7 +8,7 @@ use Rattle.nl_field.specs.Page.{Image, page_at}
 use Rattle.nl_field.specs.declared.shape.Shape.{Shape}
 use Rattle.nl_nand.specs.Nand.{ImageOf}
 use Rattle.nl_nand.specs.declared.geometry.Geometry.{Geometry}
-use Rattle.nl_callbacks.specs.Pending.{IsTable, PendingTable, callback_of, new_entry, place_of}
+use Rattle.nl_callbacks.specs.Pending.{ArePendingEntries, PendingTable, callback_of, new_entry, place_of}
 use Rattle.nl_field.specs.Live.{resolve}
 use Rattle.nl_iface.specs.Moves.{Copies, TakesVictim}
 use Rattle.nl_iface.specs.Names.{Names, told_page, with_page, without_page}
@@ -16,13 +16,13 @@ use Rattle.nl_iface.specs.declared.Callback.{Callback}
 use Rattle.nl_device.specs.Callbacks.{names_with}
 use Rattle.nl_device.specs.Space.{space_of}
 use Rattle.nl_device.proofs.SpaceSteps.{begun, begun_gains}
-use Rattle.nl_iface.specs.Left.{IsTried, LeavesTried}
+use Rattle.nl_iface.specs.Left.{IsOutcomeOfWrite, LeavesTried}
 use Rattle.nl_iface.specs.Stored.{NamedPage, Stored, stored_in}
-use Rattle.nl_pseg.specs.Cleaning.{Begins, CrashesMove, IsChosen, Moves, MovesNone}
+use Rattle.nl_pseg.specs.Cleaning.{BeginsBlock, CrashesMove, IsChosen, MovesLivePage, MovesNone}
 use Rattle.nl_pseg.specs.Pages.{main_of}
 use Rattle.nl_pseg.specs.declared.cleaned.Copied.{Copied}
-use Rattle.nl_pseg.specs.Effects.{Keeps, Places}
-use Rattle.nl_pseg.specs.Segment.{HasSpare, IsPhysicalOf, KeepsBlock, Physical, SamePages, held_at}
+use Rattle.nl_pseg.specs.Effects.{PreservesSegment, PlacesOnImage}
+use Rattle.nl_pseg.specs.Segment.{CanSpareBlock, IsPhysicalOf, KeepsBlock, Physical, SameBlocksAndPages, held_at}
 use Rattle.nl_pseg.specs.Space.{IsWhole, victims}
 use Rattle.nl_pseg.specs.declared.held.Held.{Held}
 use Rattle.nl_vseg.specs.Segment.{Segment}
@@ -40,7 +40,7 @@ use Rattle.nl_device.proofs.Naming.{below_after, either_each, either_low, named_
 
 -- with a victim in hand, if one could be begun
 pub taken_device : {geometry : Geometry} {tells : Type 0} {image : Image} {shape : Shape} {vseg : Segment} {old : Physical} {pending : PendingTable} {kept : KeptPages} {next : ℕ} → IsDevice geometry tells image shape vseg old pending kept next → (tells → ImageOf geometry image)
-    → (new : Physical) (cold began : Bool) → OnTrue began ((block : ℕ) × IsChosen cold old block × Begins block old new) → OnFalse began (new ≡ old) → IsWhole new → (KeepsBlock old → KeepsBlock new) → ((i : Image) → IsPhysicalOf i old → IsPhysicalOf i new) → ((i : Image) → HasSpare i old → HasSpare i new)
+    → (new : Physical) (cold began : Bool) → OnTrue began ((block : ℕ) × IsChosen cold old block × BeginsBlock block old new) → OnFalse began (new ≡ old) → IsWhole new → (KeepsBlock old → KeepsBlock new) → ((i : Image) → IsPhysicalOf i old → IsPhysicalOf i new) → ((i : Image) → CanSpareBlock i old → CanSpareBlock i new)
     → IsDevice geometry tells image shape vseg new pending kept next
 taken_device {geometry} {tells} {image} {shape} {vseg} {old} {pending} {kept} {next} f fits new cold began begun none whole keeps segment on = ⊎_elim
     (λ is. let b = OnTrue_at is begun in begun_device f fits new cold b.0 b.1 b.2 whole keeps segment on)
@@ -48,14 +48,14 @@ taken_device {geometry} {tells} {image} {shape} {vseg} {old} {pending} {kept} {n
     (cases_Bool began)
 
 -- the live pages are the same then
-pub mid_held : (old mid : Physical) (began : Bool) → OnTrue began ((block : ℕ) × IsChosen false old block × Begins block old mid) → OnFalse began (mid ≡ old) → (p : ℕ) (h : Held) → held_at old p ≡ Some h → held_at mid p ≡ Some h
+pub mid_held : (old mid : Physical) (began : Bool) → OnTrue began ((block : ℕ) × IsChosen false old block × BeginsBlock block old mid) → OnFalse began (mid ≡ old) → (p : ℕ) (h : Held) → held_at old p ≡ Some h → held_at mid p ≡ Some h
 mid_held old mid began begun none p h has = ⊎_elim
-    (λ is. let b : (block : ℕ) × IsChosen false old block × Begins block old mid = OnTrue_at is begun in same_keeps old mid b.2.tables.same_held p h has)
+    (λ is. let b : (block : ℕ) × IsChosen false old block × BeginsBlock block old mid = OnTrue_at is begun in same_keeps old mid b.2.tables.same_held p h has)
     (λ is. subst (λ (s : Physical). held_at s p ≡ Some h) (sym (OnFalse_at is none)) has)
     (cases_Bool began)
 
 -- there is room for one more callback
-pub post_room : {geometry : Geometry} {tells : Type 0} {image : Image} {shape : Shape} {vseg : Segment} {old new : Physical} {pending : PendingTable} {kept : KeptPages} {next before after : ℕ} {h : Held} → IsDevice geometry tells image shape vseg old pending kept next → Moves before after h old new → 0 < pending.room
+pub post_room : {geometry : Geometry} {tells : Type 0} {image : Image} {shape : Shape} {vseg : Segment} {old new : Physical} {pending : PendingTable} {kept : KeptPages} {next before after : ℕ} {h : Held} → IsDevice geometry tells image shape vseg old pending kept next → MovesLivePage before after h old new → 0 < pending.room
 post_room {geometry} {tells} {image} {shape} {vseg} {old} {new} {pending} {kept} {next} {before} {after} {h} f m =
     let few = few_called pending.callbacks old.pairs f.called.numbers.rising f.called.once f.called.old in
     let one : victims old ≡ 1 = ap (λ (o : Option ℕ). cond (is_some o) 1 0) m.in_victim in
@@ -73,14 +73,14 @@ pub record MayCopy (seg : Physical) (old c : Image) : Type 0 where
   pub was : held_at seg place ≡ Some page
   pub main : List ℕ
   pub tried : ℕ
-  pub either : Keeps seg old c ⊎ Places seg tried page.tag page.stamp main old c
+  pub either : PreservesSegment seg old c ⊎ PlacesOnImage seg tried page.tag page.stamp main old c
 
 -- what a move may leave
 pub may_copy : {M : Type 0} {clock : M → ℕ} {contents : M → Image} {left : M → ℕ → Image → Type 0} {seg : Physical} {old new : M} {answer : Copied} → CrashesMove clock contents left seg old new answer → MayCopy seg (contents old) (contents new)
 may_copy {M} {clock} {contents} {left} {seg} {old} {new} {answer} k = record { place = k.before; page = k.h; was = k.was; main = main_of (page_at (contents old) k.before); tried = k.crash.page; either = k.crash.either }
 
 module _ {geometry now : Geometry} {tells : Type 0} {image c : Image} {shape : Shape} {vseg : Segment} {old : Physical} {pending : PendingTable} {kept : KeptPages} {next : ℕ} (f : IsDevice geometry tells image shape vseg old pending kept next) (same_geometry : now ≡ geometry) (old_fits : tells → ImageOf geometry image) (fits : tells → ImageOf now c)
-    (new : Physical) (whole : IsWhole new) (keeps : KeepsBlock old → KeepsBlock new) (segment : tells → IsPhysicalOf c new) (on : tells → HasSpare image old → HasSpare c new) (made : tells → MayCopy old image c) where
+    (new : Physical) (whole : IsWhole new) (keeps : KeepsBlock old → KeepsBlock new) (segment : tells → IsPhysicalOf c new) (on : tells → CanSpareBlock image old → CanSpareBlock c new) (made : tells → MayCopy old image c) where
   below_next : tells → (p : ℕ) (page : NamedPage) → (stored_in c).named p ≡ Some page → page.stamp + 1 ≤ next
   below_next t p page is =
       let k = made t in
@@ -90,10 +90,10 @@ module _ {geometry now : Geometry} {tells : Type 0} {image c : Image} {shape : S
   stored : tells → IsFoundStored (forgotten kept) (λ p. bytes_at (shape.vblocks * shape.pages) c p) (stored_in c)
   stored t = stored_after kept (forgotten kept) true refl (λ p. bytes_at (shape.vblocks * shape.pages) c p) (stored_in c) (λ un. absurd (true≢false un))
 
-  pub moved_device : (at after : ℕ) (h : Held) → Moves at after h old new → (u : PendingTable) (number : ℕ) → IsTable u.callbacks u.posted → u.callbacks ≡ insert pending.callbacks (place_of pending.callbacks number) (new_entry (callback_of number at after h.tag h.stamp)) → length u.callbacks + u.room ≡ length pending.callbacks + pending.room
+  pub moved_device : (at after : ℕ) (h : Held) → MovesLivePage at after h old new → (u : PendingTable) (number : ℕ) → ArePendingEntries u.callbacks u.posted → u.callbacks ≡ insert pending.callbacks (place_of pending.callbacks number) (new_entry (callback_of number at after h.tag h.stamp)) → length u.callbacks + u.room ≡ length pending.callbacks + pending.room
       → IsDevice now tells c shape vseg new u (forgotten kept) next
   moved_device at after h m u number table inserted room =
-      let same : SamePages old new = record { same_first = m.same_first; same_blocks = m.same_blocks; same_size = m.same_size; same_wear = m.same_wear } in
+      let same : SameBlocksAndPages old new = record { same_first = m.same_first; same_blocks = m.same_blocks; same_size = m.same_size; same_wear = m.same_wear } in
       let within = in_within f.segments at (f.live.in_segment at h m.was) in
       let below = in_within f.segments after m.dead.within in
       let live = live_moved at after h old new m f.spare.whole whole within below f.live in
@@ -115,7 +115,7 @@ module _ {geometry now : Geometry} {tells : Type 0} {image c : Image} {shape : S
 
   pub unmoved_device : MovesNone old new → IsDevice now tells c shape vseg new pending (forgotten kept) next
   unmoved_device m =
-      let same : SamePages old new = record { same_first = m.tables.same_first; same_blocks = m.tables.same_blocks; same_size = m.tables.same_size; same_wear = m.same_wear } in
+      let same : SameBlocksAndPages old new = record { same_first = m.tables.same_first; same_blocks = m.tables.same_blocks; same_size = m.tables.same_size; same_wear = m.same_wear } in
       let held = m.tables.same_held in
       let live = live_kept old new f.live same whole.pages.erased_within held in
       let count : length new.held ≡ length old.held = ap (λ (l : List (Option Held)). length l) held in
@@ -132,9 +132,9 @@ module _ {geometry now : Geometry} {tells : Type 0} {image c : Image} {shape : S
       (below_next t))
 
 -- the tables of a device with a victim in hand are those before
-pub mid_tables : (old mid : Physical) (began : Bool) → OnTrue began ((block : ℕ) × IsChosen false old block × Begins block old mid) → OnFalse began (mid ≡ old) → (mid.held ≡ old.held) × (mid.pairs ≡ old.pairs)
+pub mid_tables : (old mid : Physical) (began : Bool) → OnTrue began ((block : ℕ) × IsChosen false old block × BeginsBlock block old mid) → OnFalse began (mid ≡ old) → (mid.held ≡ old.held) × (mid.pairs ≡ old.pairs)
 mid_tables old mid began begun none = ⊎_elim
-    (λ is. let b : (block : ℕ) × IsChosen false old block × Begins block old mid = OnTrue_at is begun in (b.2.tables.same_held, b.2.tables.same_pairs))
+    (λ is. let b : (block : ℕ) × IsChosen false old block × BeginsBlock block old mid = OnTrue_at is begun in (b.2.tables.same_held, b.2.tables.same_pairs))
     (λ is. let e = OnFalse_at is none in (ap (λ (s : Physical). s.held) e, ap (λ (s : Physical). s.pairs) e))
     (cases_Bool began)
 
@@ -161,9 +161,9 @@ unfolding space_of
 victim_one seg one = one
 
 -- a victim is in hand, or was begun with a dead page
-pub takes_victim : (old mid : Physical) (began : Bool) → OnTrue began ((block : ℕ) × IsChosen false old block × Begins block old mid) → OnFalse began (mid ≡ old) → victims mid ≡ 1 → TakesVictim (space_of old) (space_of mid)
+pub takes_victim : (old mid : Physical) (began : Bool) → OnTrue began ((block : ℕ) × IsChosen false old block × BeginsBlock block old mid) → OnFalse began (mid ≡ old) → victims mid ≡ 1 → TakesVictim (space_of old) (space_of mid)
 takes_victim old mid began begun_is none one = ⊎_elim
-    (λ is. let b : (block : ℕ) × IsChosen false old block × Begins block old mid = OnTrue_at is begun_is in inr (begun b.0 old mid b.2, begun_gains b.0 old mid b.2 (b.1.some refl)))
+    (λ is. let b : (block : ℕ) × IsChosen false old block × BeginsBlock block old mid = OnTrue_at is begun_is in inr (begun b.0 old mid b.2, begun_gains b.0 old mid b.2 (b.1.some refl)))
     (λ is. let e = OnFalse_at is none in inl (victim_one old (ap victims (sym e) ∙ one), ap space_of e))
     (cases_Bool began)
 
@@ -194,7 +194,7 @@ tried_from {shape} {bytes} {n} {c0} {c} old mid t held pairs l = record {
     led_own : (p : ℕ) → resolve mid.pairs p ≡ p → resolve old.pairs p ≡ p
     led_own p own = ap (λ ps. resolve ps p) (sym pairs) ∙ own
 
-    by : (p : ℕ) → IsTried shape (names_of mid) n c0 c p → IsTried shape (names_with old t) n c0 c p
+    by : (p : ℕ) → IsOutcomeOfWrite shape (names_of mid) n c0 c p → IsOutcomeOfWrite shape (names_with old t) n c0 c p
     by p (inl same) = inl same
     by p (inr (inl gone)) = inr (inl (record { dead = sym (live_page_here p) ∙ gone.0.dead; own = ap (λ ps. resolve ps p) (sym pairs) ∙ gone.0.own }, gone.1))
       where

@@ -4,16 +4,16 @@ use Rattle.std.specs.Prelude.{Contains}
 use Rattle.std.proofs.lemmas.Bool.{cases_eq, cond-true, cond-false}
 use Rattle.std.proofs.lemmas.List.{get_or-set_other, get_or-set_same, length-set}
 use Rattle.std.proofs.lemmas.Option.{none-some}
-use Rattle.nl_callbacks.specs.Pending.{IsTable, PendingTable, callback_of, entry_at, new_entry, number_of, place_of}
+use Rattle.nl_callbacks.specs.Pending.{ArePendingEntries, PendingTable, callback_of, entry_at, new_entry, number_of, place_of}
 use Rattle.nl_callbacks.specs.declared.entry.Entry.{Entry}
 use Rattle.nl_field.specs.Live.{resolve}
 use Rattle.nl_iface.specs.Names.{Has, LivePage, led}
 use Rattle.nl_iface.specs.declared.Callback.{Callback}
-use Rattle.nl_pseg.specs.Cleaning.{Moves, without_name}
+use Rattle.nl_pseg.specs.Cleaning.{MovesLivePage, without_name}
 use Rattle.nl_pseg.specs.Segment.{IsOldName, Physical, held_at}
 use Rattle.nl_pseg.specs.Space.{IsWhole}
 use Rattle.nl_pseg.specs.declared.held.Held.{Held}
-use Rattle.nl_device.specs.Callbacks.{AreCalled, NamesDiffer, callbacks_of, held_by}
+use Rattle.nl_device.specs.Callbacks.{AreCalled, CallbackNamesDiffer, callbacks_of, held_of_callback}
 use Rattle.nl_device.specs.Device.{HasLive}
 use Rattle.nl_device.specs.Shown.{live_page, names_of}
 use Rattle.nl_device.specs.State.{at_has, held_of, led_by, old_or, to_itself}
@@ -37,7 +37,7 @@ shorter (x ∷ xs) n t (suc i, lt, is) = by (shorter xs n t (i, omega (arith, lt
     by rest true = omega (arith, rest)
     by rest false = omega (arith, rest)
 
-pub few_called : (es : List Entry) (pairs : List (ℕ × ℕ)) → ((i j : ℕ) → i < j → j < length es → number_of (entry_at es i) < number_of (entry_at es j)) → NamesDiffer es → ((c : Callback) → Has (callbacks_of es) c → (t : ℕ) × Contains pairs (c.before, t)) → length es ≤ length pairs
+pub few_called : (es : List Entry) (pairs : List (ℕ × ℕ)) → ((i j : ℕ) → i < j → j < length es → number_of (entry_at es i) < number_of (entry_at es j)) → CallbackNamesDiffer es → ((c : Callback) → Has (callbacks_of es) c → (t : ℕ) × Contains pairs (c.before, t)) → length es ≤ length pairs
 few_called [] pairs rising differ has = omega arith
 few_called (e ∷ es) pairs rising differ has =
     let far : (c : Callback) → Has (callbacks_of es) c → c.before ≢ e.callback.before = λ c h same.
@@ -61,7 +61,7 @@ insert_length (x ∷ es) (suc at) e = let l = insert_length es at e in omega (ar
 
 -- ---- what a move leaves of the tables
 
-module _ (before after : ℕ) (h : Held) (old new : Physical) (m : Moves before after h old new) (was : IsWhole old) (is : IsWhole new) (within : before < length old.held) (below : after < length old.held) where
+module _ (before after : ℕ) (h : Held) (old new : Physical) (m : MovesLivePage before after h old new) (was : IsWhole old) (is : IsWhole new) (within : before < length old.held) (below : after < length old.held) where
   apart : after ≡ before → ⊥
   apart same = none-some h (sym m.dead.dead ∙ (ap (held_at old) same ∙ m.was))
 
@@ -130,11 +130,11 @@ module _ (before after : ℕ) (h : Held) (old new : Physical) (m : Moves before 
   before_old : IsOldName new before
   before_old = by_pair before (λ own. apart (sym (led_here before own_before) ∙ own))
 
-  pub called_moved : (t u : PendingTable) (number : ℕ) → AreCalled old t → IsTable u.callbacks u.posted → u.callbacks ≡ insert t.callbacks (place_of t.callbacks number) (new_entry (callback_of number before after h.tag h.stamp)) → length u.callbacks + u.room ≡ length t.callbacks + t.room → AreCalled new u
+  pub called_moved : (t u : PendingTable) (number : ℕ) → AreCalled old t → ArePendingEntries u.callbacks u.posted → u.callbacks ≡ insert t.callbacks (place_of t.callbacks number) (new_entry (callback_of number before after h.tag h.stamp)) → length u.callbacks + u.room ≡ length t.callbacks + t.room → AreCalled new u
   called_moved t u number called table inserted room = record {
     numbers = table;
     told = λ c has. ⊎_elim
-        (λ same. subst (λ (x : Callback). held_at new (resolve new.pairs x.before) ≡ held_by x) same (ap (held_at new) (led_here before own_before) ∙ here_now))
+        (λ same. subst (λ (x : Callback). held_at new (resolve new.pairs x.before) ≡ held_of_callback x) same (ap (held_at new) (led_here before own_before) ∙ here_now))
         (λ had.
         let told = called.told c had in
         ⊎_elim

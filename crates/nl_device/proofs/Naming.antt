@@ -8,16 +8,16 @@ use Rattle.nl_field.specs.declared.pointer.Tag.{Tag}
 use Rattle.nl_field.specs.declared.shape.Shape.{Shape}
 use Rattle.nl_nand.specs.Nand.{ImageOf}
 use Rattle.nl_nand.specs.declared.geometry.Geometry.{Geometry}
-use Rattle.nl_iface.specs.Left.{ChangesInBlock, HoldsLive, IsTried, LeavesTried}
-use Rattle.nl_iface.specs.Names.{IsNew}
+use Rattle.nl_iface.specs.Left.{ChangesInBlock, HoldsLive, IsOutcomeOfWrite, LeavesTried}
+use Rattle.nl_iface.specs.Names.{IsNewName}
 use Rattle.nl_iface.specs.Stored.{NamedPage, Value, stored_in, Stored}
-use Rattle.nl_pseg.specs.Effects.{Keeps, Places, Programmed, Takes}
+use Rattle.nl_pseg.specs.Effects.{PreservesSegment, PlacesOnImage, PageIsProgrammed, TakesImagePage}
 use Rattle.nl_pseg.specs.Pages.{IsUnreadable, main_of, page_with, shown_by}
-use Rattle.nl_pseg.specs.Segment.{HasSpare, IsDead, IsPhysicalOf, Physical, held_at, wear_of}
+use Rattle.nl_pseg.specs.Segment.{CanSpareBlock, IsDead, IsPhysicalOf, Physical, held_at, wear_of}
 use Rattle.nl_pseg.specs.Space.{IsWhole}
 use Rattle.nl_pseg.specs.declared.held.Held.{Held}
 use Rattle.nl_vseg.specs.Maps.{Dominated}
-use Rattle.nl_vseg.specs.Pages.{Shows, fact_of}
+use Rattle.nl_vseg.specs.Pages.{PageShows, fact_of}
 use Rattle.nl_vseg.specs.Pages as virtual
 use Rattle.nl_vseg.specs.Places.{map_of, place_of, value_at}
 use Rattle.nl_vseg.specs.Segment.{IsSegmentOf, Segment}
@@ -39,12 +39,12 @@ unread page (inl is) = ap (λ p. named_of (shown_by p)) is
 unread page (inr is) = ap (λ p. named_of (shown_by p)) is
 
 -- whichever of the two, a page is as it was, or it was not live and nothing is read from it, or it is the new one
-pub either_each : {seg : Physical} {page : ℕ} {value : Page} {old c : Image} → Keeps seg old c ⊎ Takes seg page value old c → (p : ℕ) → (page_at c p ≡ page_at old p) ⊎ IsDead seg p
+pub either_each : {seg : Physical} {page : ℕ} {value : Page} {old c : Image} → PreservesSegment seg old c ⊎ TakesImagePage seg page value old c → (p : ℕ) → (page_at c p ≡ page_at old p) ⊎ IsDead seg p
 either_each (inl k) p = ⊎_elim (λ same. inl same) (λ dead. inr dead.0) (k.each p)
 either_each {seg} {page} (inr k) p = ⊎_elim (λ is. inr (subst (IsDead seg) (sym is) k.dead)) (λ ne. ⊎_elim (λ same. inl same) (λ dead. inr dead.0) (k.others p ne)) (cases_eq p page)
 
 -- with or without what the page shows
-pub to_takes : {seg : Physical} {page stamp : ℕ} {tag : Tag} {main : List ℕ} {old c : Image} → Keeps seg old c ⊎ Places seg page tag stamp main old c → Keeps seg old c ⊎ Takes seg page (written (page_with main tag stamp (wear_of seg (page / seg.size)))) old c
+pub to_takes : {seg : Physical} {page stamp : ℕ} {tag : Tag} {main : List ℕ} {old c : Image} → PreservesSegment seg old c ⊎ PlacesOnImage seg page tag stamp main old c → PreservesSegment seg old c ⊎ TakesImagePage seg page (written (page_with main tag stamp (wear_of seg (page / seg.size)))) old c
 to_takes (inl k) = inl k
 to_takes (inr k) = inr k.takes
 
@@ -53,17 +53,17 @@ pub shown_from : (tag : Tag) (stamp wear : ℕ) (main : List ℕ) (page : Page) 
 shown_from tag stamp wear main page is shows = subst (λ (p : Page). shown_by p ≡ Some (tag, stamp, main_of p)) is shows
 
 -- after a write under a new name a page of the virtual segment is as it was
-pub either_low : {seg : Physical} {page : ℕ} {value : Page} {old c : Image} → Keeps seg old c ⊎ Takes seg page value old c → (p : ℕ) → p < seg.first * seg.size → page_at c p ≡ page_at old p
+pub either_low : {seg : Physical} {page : ℕ} {value : Page} {old c : Image} → PreservesSegment seg old c ⊎ TakesImagePage seg page value old c → (p : ℕ) → p < seg.first * seg.size → page_at c p ≡ page_at old p
 either_low k p below = ⊎_elim (λ same. same) (λ dead. let from = dead.within.0 in absurd (omega (arith, below, from))) (either_each k p)
 
 -- after a write under a new name a live page is as it was
-pub either_live : {seg : Physical} {page : ℕ} {value : Page} {old c : Image} → Keeps seg old c ⊎ Takes seg page value old c → (p : ℕ) (h : Held) → held_at seg p ≡ Some h → page_at c p ≡ page_at old p
+pub either_live : {seg : Physical} {page : ℕ} {value : Page} {old c : Image} → PreservesSegment seg old c ⊎ TakesImagePage seg page value old c → (p : ℕ) (h : Held) → held_at seg p ≡ Some h → page_at c p ≡ page_at old p
 either_live k p h has = ⊎_elim (λ same. same) (λ dead. absurd (none-some h (sym dead.dead ∙ has))) (either_each k p)
 
 -- once the page was programmed it is there, and what else changed is what may
-pub placed_takes : {seg : Physical} {page name : ℕ} {value : Page} {old c : Image} → Keeps seg old c ⊎ Takes seg page value old c → page ≡ name → Programmed seg name value old c → Takes seg name value old c
+pub placed_takes : {seg : Physical} {page name : ℕ} {value : Page} {old c : Image} → PreservesSegment seg old c ⊎ TakesImagePage seg page value old c → page ≡ name → PageIsProgrammed seg name value old c → TakesImagePage seg name value old c
 placed_takes (inl k) is p = record { dead = p.dead; has = p.has; others = λ q ne. k.each q }
-placed_takes {seg} {page} {name} {value} {old} {c} (inr k) is p = subst (λ n. Takes seg n value old c) is k
+placed_takes {seg} {page} {name} {value} {old} {c} (inr k) is p = subst (λ n. TakesImagePage seg n value old c) is k
 
 pub live_bytes : (first : ℕ) (old c : Image) (p : ℕ) → page_at c p ≡ page_at old p → bytes_at first c p ≡ bytes_at first old p
 live_bytes first old c p same = ap (λ page. cond (nat_lt p first) [] (main_of page)) same
@@ -85,10 +85,10 @@ virtual_kept old c vseg has same is = record {
   erased_is = λ p blank. same p (has.blank_in p blank) ∙ is.erased_is p blank;
 }
 
-pub shows_same : (bound : ℕ) (old c : Image) → ((p : ℕ) → p < bound → page_at c p ≡ page_at old p) → (v t : ℕ) (n : List ℕ) → Shows bound c v t n → Shows bound old v t n
+pub shows_same : (bound : ℕ) (old c : Image) → ((p : ℕ) → p < bound → page_at c p ≡ page_at old p) → (v t : ℕ) (n : List ℕ) → PageShows bound c v t n → PageShows bound old v t n
 shows_same bound old c same v t n shows = (shows.0, shows.1, ap fact_of (sym (same shows.0 shows.1)) ∙ shows.2)
 
-pub shows_still : (bound : ℕ) (old c : Image) → ((p : ℕ) → p < bound → page_at c p ≡ page_at old p) → (v t : ℕ) (n : List ℕ) → Shows bound old v t n → Shows bound c v t n
+pub shows_still : (bound : ℕ) (old c : Image) → ((p : ℕ) → p < bound → page_at c p ≡ page_at old p) → (v t : ℕ) (n : List ℕ) → PageShows bound old v t n → PageShows bound c v t n
 shows_still bound old c same v t n shows = (shows.0, shows.1, ap fact_of (same shows.0 shows.1) ∙ shows.2)
 
 pub stray_same : (bound : ℕ) (old c : Image) (map now : ℕ → Option Value) → ((p : ℕ) → p < bound → page_at c p ≡ page_at old p) → ((v : ℕ) → now v ≡ map v) → (v : ℕ) (x : Value) → IsStray bound c now v x → IsStray bound old map v x
@@ -131,7 +131,7 @@ module _ (geometry : Geometry) (shape : Shape) (vseg : Segment) (seg : Physical)
   dead_live : (p : ℕ) → IsDead seg p → (names_of seg).live p ≡ None
   dead_live p dead = ap live_page dead.dead
 
-  is_new_page : (page : ℕ) → IsDead seg page → IsNew shape (names_of seg) page
+  is_new_page : (page : ℕ) → IsDead seg page → IsNewName shape (names_of seg) page
   is_new_page page dead = record {
     low = subst (λ n. n ≤ page) first_is dead.within.0;
     high = subst (λ n. page < n) (λ i. segments.physical_blocks i * segments.physical_pages i) dead.within.1;
@@ -140,20 +140,20 @@ module _ (geometry : Geometry) (shape : Shape) (vseg : Segment) (seg : Physical)
   }
 
   -- the page that was programmed holds what it shows
-  pub programmed_named : (page : ℕ) (tag : Tag) (stamp wear : ℕ) (main : List ℕ) → shown_by (written (page_with main tag stamp wear)) ≡ Some (tag, stamp, main) → Takes seg page (written (page_with main tag stamp wear)) old c
+  pub programmed_named : (page : ℕ) (tag : Tag) (stamp wear : ℕ) (main : List ℕ) → shown_by (written (page_with main tag stamp wear)) ≡ Some (tag, stamp, main) → TakesImagePage seg page (written (page_with main tag stamp wear)) old c
       → (stored_in c).named page ≡ Some (record { tag = tag; stamp = stamp; bytes = main })
   programmed_named page tag stamp wear main shows k =
       named_from shape c (shape_is segments c_fits) page (subst (λ n. n ≤ page) first_is k.dead.within.0) ∙ (ap (λ p. named_of (shown_by p)) k.has ∙ ap named_of shows)
 
   -- what a stop leaves of a page
-  pub tried_page : (page stamp : ℕ) (tag : Tag) (main : List ℕ) → Keeps seg old c ⊎ Places seg page tag stamp main old c → (p : ℕ) → IsTried shape (names_of seg) (record { tag = tag; stamp = stamp; bytes = main }) (stored_in old) (stored_in c) p
+  pub tried_page : (page stamp : ℕ) (tag : Tag) (main : List ℕ) → PreservesSegment seg old c ⊎ PlacesOnImage seg page tag stamp main old c → (p : ℕ) → IsOutcomeOfWrite shape (names_of seg) (record { tag = tag; stamp = stamp; bytes = main }) (stored_in old) (stored_in c) p
   tried_page page stamp tag main (inl k) p = ⊎_elim
       (λ same. inl (named_same p same))
       (λ dead. inr (inl (record { dead = dead_live p dead.0; own = to_itself seg.pairs p dead.0.own }, named_none p dead.1)))
       (k.each p)
   tried_page page stamp tag main (inr k) p = ⊎_elim
       (λ here. inr (inr (
-        subst (IsNew shape (names_of seg)) (sym here) (is_new_page page k.takes.dead),
+        subst (IsNewName shape (names_of seg)) (sym here) (is_new_page page k.takes.dead),
         ap (stored_in c).named here ∙ programmed_named page tag stamp (wear_of seg (page / seg.size)) main k.shows k.takes,
       )))
       (λ ne. ⊎_elim
@@ -162,7 +162,7 @@ module _ (geometry : Geometry) (shape : Shape) (vseg : Segment) (seg : Physical)
       (k.takes.others p ne))
       (cases_eq p page)
 
-  pub leaves_tried : (page stamp : ℕ) (tag : Tag) (main : List ℕ) → HasSpareBlock seg → HasSpare old seg → NamesHold shape (names_of seg) (stored_in old) → Keeps seg old c ⊎ Places seg page tag stamp main old c
+  pub leaves_tried : (page stamp : ℕ) (tag : Tag) (main : List ℕ) → HasSpareBlock seg → CanSpareBlock old seg → NamesHold shape (names_of seg) (stored_in old) → PreservesSegment seg old c ⊎ PlacesOnImage seg page tag stamp main old c
       → LeavesTried shape (names_of seg) (λ p. bytes_at (shape.vblocks * shape.pages) old p) (record { tag = tag; stamp = stamp; bytes = main }) (stored_in old) (stored_in c)
   leaves_tried page stamp tag main spare on names k =
       let holds = holds_live (either_live (to_takes k)) in
@@ -175,17 +175,17 @@ module _ (geometry : Geometry) (shape : Shape) (vseg : Segment) (seg : Physical)
       }
 
   -- no page has a stamp from this one on
-  pub below_after : (page stamp after : ℕ) (tag : Tag) (main : List ℕ) → Keeps seg old c ⊎ Places seg page tag stamp main old c → ((p : ℕ) (n : NamedPage) → (stored_in old).named p ≡ Some n → n.stamp + 1 ≤ after) → stamp + 1 ≤ after
+  pub below_after : (page stamp after : ℕ) (tag : Tag) (main : List ℕ) → PreservesSegment seg old c ⊎ PlacesOnImage seg page tag stamp main old c → ((p : ℕ) (n : NamedPage) → (stored_in old).named p ≡ Some n → n.stamp + 1 ≤ after) → stamp + 1 ≤ after
       → (p : ℕ) (n : NamedPage) → (stored_in c).named p ≡ Some n → n.stamp + 1 ≤ after
   below_after page stamp after tag main k was new p n is = by (tried_page page stamp tag main k p)
     where
-      by : IsTried shape (names_of seg) (record { tag = tag; stamp = stamp; bytes = main }) (stored_in old) (stored_in c) p → n.stamp + 1 ≤ after
+      by : IsOutcomeOfWrite shape (names_of seg) (record { tag = tag; stamp = stamp; bytes = main }) (stored_in old) (stored_in c) p → n.stamp + 1 ≤ after
       by (inl same) = was p n (sym same ∙ is)
       by (inr (inl gone)) = absurd (none-some n (sym gone.1 ∙ is))
       by (inr (inr here)) = subst (λ (x : NamedPage). x.stamp + 1 ≤ after) (same_Some (record { tag = tag; stamp = stamp; bytes = main }) n (sym here.1 ∙ is)) new
 
   -- a new name
-  pub is_new : (page : ℕ) → IsDead seg page → IsNew shape (names_of seg) page
+  pub is_new : (page : ℕ) → IsDead seg page → IsNewName shape (names_of seg) page
   is_new page dead = is_new_page page dead
 
   -- What the names lead to holds its stamps still, after a call of which each new page is on the medium.
@@ -196,14 +196,14 @@ module _ (geometry : Geometry) (shape : Shape) (vseg : Segment) (seg : Physical)
       (λ made. inr (record { tag = page.tag; stamp = page.stamp; bytes = bytes name }, holds name page made.1, refl))
       (led_before seg new whole fewer New fresh less name page has))
 
-  pub in_block : (name : ℕ) (value : Page) → Programmed seg name value old c → ChangesInBlock shape.pages name (stored_in old) (stored_in c)
+  pub in_block : (name : ℕ) (value : Page) → PageIsProgrammed seg name value old c → ChangesInBlock shape.pages name (stored_in old) (stored_in c)
   in_block name value k p ne = ⊎_elim
       (λ same. inl (named_same p same))
       (λ wiped. inr (subst (λ n. p / n ≡ name / n) segments.physical_pages wiped.0, named_none p (inl wiped.3)))
       (k.others p ne)
 
 -- what is said of names does not hang on the callbacks
-pub new_as : {shape : Shape} {page : ℕ} (pseg : Physical) (table : PendingTable) → IsNew shape (names_of pseg) page → IsNew shape (names_with pseg table) page
+pub new_as : {shape : Shape} {page : ℕ} (pseg : Physical) (table : PendingTable) → IsNewName shape (names_of pseg) page → IsNewName shape (names_with pseg table) page
 new_as pseg table is = record { low = is.low; high = is.high; dead = is.dead; own = is.own }
 
 pub tried_as : {shape : Shape} {bytes : ℕ → List ℕ} {new : NamedPage} {old c : Stored} (pseg : Physical) (table : PendingTable) → LeavesTried shape (names_of pseg) bytes new old c → LeavesTried shape (names_with pseg table) bytes new old c
@@ -214,7 +214,7 @@ tried_as {shape} {bytes} {new} {old} {c} pseg table l = record {
   others = λ p. by p (l.others p);
 }
   where
-    by : (p : ℕ) → IsTried shape (names_of pseg) new old c p → IsTried shape (names_with pseg table) new old c p
+    by : (p : ℕ) → IsOutcomeOfWrite shape (names_of pseg) new old c p → IsOutcomeOfWrite shape (names_with pseg table) new old c p
     by p (inl same) = inl same
     by p (inr (inl gone)) = inr (inl (record { dead = gone.0.dead; own = gone.0.own }, gone.1))
     by p (inr (inr here)) = inr (inr (new_as pseg table here.0, here.1))

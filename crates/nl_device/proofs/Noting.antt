@@ -10,7 +10,7 @@ use Rattle.std.proofs.lemmas.Bool.Decides.{nat_tests}
 use Rattle.std.proofs.lemmas.List.Folds.{find-append}
 use Rattle.std.proofs.lemmas.Option.{none-some}
 use Rattle.nl_device.specs.Copies.{noted}
-use Rattle.nl_device.specs.Kept.{AreNoted, copies_of, copy_apart}
+use Rattle.nl_device.specs.Kept.{CopiesAreNoted, copies_of, copy_apart}
 use Rattle.nl_device.specs.declared.kept.copies.Copies.{Copies}
 use Rattle.nl_device.specs.declared.kept.page.KeptPage.{KeptPage}
 
@@ -80,14 +80,14 @@ other size pages k stamp differs =
     let not_it = other_number k.stamp stamp differs in
     λ i. option_map (λ r. record { first = r.page; apart = option_map (λ q. q.page) (skipped (is_apart size stamp r.page) pages k (λ j. not_it j && not (k.page / size == r.page / size)) i) }) (skipped (λ q. q.stamp == stamp) pages k not_it i)
 
-pub noted_more : (size : ℕ) (pages : List KeptPage) (k : KeptPage) (old new : BTreeMap ℕ Copies) → AreNoted size pages old
-    → Updates nat_cmp old new k.stamp (Some (noted size k.page (get nat_cmp old k.stamp))) → AreNoted size (pages ++ k ∷ []) new
+pub noted_more : (size : ℕ) (pages : List KeptPage) (k : KeptPage) (old new : BTreeMap ℕ Copies) → CopiesAreNoted size pages old
+    → Updates nat_cmp old new k.stamp (Some (noted size k.page (get nat_cmp old k.stamp))) → CopiesAreNoted size (pages ++ k ∷ []) new
 noted_more size pages k old new are updates stamp =
     ⊎_elim
     (λ same. ap (get nat_cmp new) (sym same) ∙ updates.1 ∙ (λ i. Some (noted size k.page (are k.stamp i))) ∙ more_of size pages k ∙ ap (copies_of size (pages ++ k ∷ [])) same)
     (λ differs. updates.2 stamp (other_stamp k.stamp stamp differs) ∙ are stamp ∙ sym (other size pages k stamp differs))
     (cases_eq k.stamp stamp)
 
-pub noted_none : (size : ℕ) (copies : BTreeMap ℕ Copies) → copies.entries ≡ [] → AreNoted size [] copies
+pub noted_none : (size : ℕ) (copies : BTreeMap ℕ Copies) → copies.entries ≡ [] → CopiesAreNoted size [] copies
 unfolding copies_of
 noted_none size copies none stamp = ap (lookup (λ k. is_eq (nat_cmp stamp k))) none

@@ -10,7 +10,7 @@ use Rattle.nl_field.specs.Virtual.{first_in, newest, or_first_in}
 use Rattle.nl_field.specs.declared.shape.Shape.{Shape}
 use Rattle.nl_field.specs.declared.spare.SpareRec.{SpareRec}
 use Rattle.nl_field.specs.declared.spare.SpareRec.TheVariants.{Virtual, Physical}
-use Rattle.nl_scan.specs.Tables.{IsTableOf, Table}
+use Rattle.nl_scan.specs.Tables.{IsTableOf, ScanTable}
 use Rattle.nl_field.specs.ScanList.{seen_of}
 use Rattle.nl_field.proofs.ScanLists.{each as listed}
 use Rattle.nl_vseg.proofs.Members.{In, any_from, any_to}
@@ -154,7 +154,7 @@ unfolding newest_of
 newest_are pages = filter_on own_on (λ o. o.stamp == greatest_of (map own_on pages) o.vaddr) (has_greatest_stamp pages) pages (greatest_test pages)
 
 -- the needed pages are the readable virtual pages with the greatest stamp of their address
-pub needed_are : (image : Image) (t : Table) → IsTableOf image t → needed_of (shape_of_image image) t.seen ≡ map own_on (filter (has_greatest_stamp (virtual_pages image)) (virtual_pages image))
+pub needed_are : (image : Image) (t : ScanTable) → IsTableOf image t → needed_of (shape_of_image image) t.seen ≡ map own_on (filter (has_greatest_stamp (virtual_pages image)) (virtual_pages image))
 unfolding virtual_pages
 needed_are image t is =
     let shape = shape_of_image image in
@@ -194,7 +194,7 @@ unfolding shape_for
 pages_is image = refl
 
 -- the page of an address is its newest one
-pub pick_is : (image : Image) (t : Table) (v : ℕ) → IsTableOf image t → pick_of (shape_of_image image).pages (virtual_spare image) (needed_of (shape_of_image image) t.seen) v ≡ option_map own_on (newest image v)
+pub pick_is : (image : Image) (t : ScanTable) (v : ℕ) → IsTableOf image t → pick_of (shape_of_image image).pages (virtual_spare image) (needed_of (shape_of_image image) t.seen) v ≡ option_map own_on (newest image v)
 unfolding pick_of newest
 pick_is image t v is =
     let pages = virtual_pages image in

@@ -7,10 +7,10 @@ use Rattle.nl_field.specs.Page.{Image}
 use Rattle.nl_field.specs.Medium.{Readable, address_on, shape_of_image, stamp_on, virtual_pages}
 use Rattle.nl_field.specs.Space.{has_greatest_stamp, is_outside, spare_block, virtual_spare}
 use Rattle.nl_field.specs.Virtual.{newest, or_first_in}
-use Rattle.nl_scan.specs.Tables.{IsTableOf, Table}
+use Rattle.nl_scan.specs.Tables.{IsTableOf, ScanTable}
 use Rattle.nl_vseg.proofs.Members.{In, any_to, filter_from, find_in}
 use Rattle.nl_vseg.proofs.Places.{beside_of}
-use Rattle.nl_vseg.specs.Segment.{KeepsSpare, Segment}
+use Rattle.nl_vseg.specs.Segment.{SegmentHasUnmapped, Segment}
 use Rattle.nl_device.specs.Opening.{IsOpenedVirtual}
 use Rattle.nl_device.proofs.Firm.{none_found}
 use Rattle.nl_device.proofs.OpenedImage.{pages_is}
@@ -83,7 +83,7 @@ module _ (image : Image) (block : ℕ) (spare : virtual_spare image ≡ Some blo
           none_found out (filter test pages) q.0 none mine (outside_is q.0 ∙ parts.0)
 
 -- the opened segment keeps the spare block free of the map
-pub opened_keeps : (image : Image) (t : Table) (vseg : Segment) (block : ℕ) → IsTableOf image t → IsOpenedVirtual (shape_of_image image) t vseg → virtual_spare image ≡ Some block → KeepsSpare vseg
+pub opened_keeps : (image : Image) (t : ScanTable) (vseg : Segment) (block : ℕ) → IsTableOf image t → IsOpenedVirtual (shape_of_image image) t vseg → virtual_spare image ≡ Some block → SegmentHasUnmapped vseg
 opened_keeps image t vseg block is opened spare =
     let shape = shape_of_image image in
     let below = spare_below image block spare in

@@ -17,13 +17,13 @@ use Rattle.nl_field.specs.declared.spare.SpareRec.TheVariants.{Virtual, Physical
 use Rattle.nl_iface.specs.Stored.{NamedPage, stored_in, value_on}
 use Rattle.nl_nand.specs.Nand.{ImageOf}
 use Rattle.nl_nand.specs.declared.geometry.Geometry.{Geometry}
-use Rattle.nl_pseg.specs.Segment.{HasSpare, IsPhysicalOf, Physical as Named}
-use Rattle.nl_scan.specs.Tables.{IsTableOf, Table, greatest_stamp}
+use Rattle.nl_pseg.specs.Segment.{CanSpareBlock, IsPhysicalOf, Physical as Named}
+use Rattle.nl_scan.specs.Tables.{IsTableOf, ScanTable, greatest_stamp}
 use Rattle.nl_vseg.proofs.Members.{In, enumerate_from_at, enumerate_to, filter_map_from, filter_map_to, filter_to, find_in}
 use Rattle.nl_vseg.proofs.Places.{in_block}
-use Rattle.nl_vseg.specs.Pages.{Fact, Shows, fact_of, fact_with, main_of}
-use Rattle.nl_vseg.specs.Places.{Holds, map_of, place_of, value_at}
-use Rattle.nl_vseg.specs.Segment.{IsSegmentOf, Segment, is_blank}
+use Rattle.nl_vseg.specs.Pages.{Fact, PageShows, fact_of, fact_with, main_of}
+use Rattle.nl_vseg.specs.Places.{PlacesShow, map_of, place_of, value_at}
+use Rattle.nl_vseg.specs.Segment.{IsSegmentOf, Segment, is_taken_as_erased}
 use Rattle.nl_vseg.specs.declared.place.Place.{Place}
 use Rattle.nl_device.specs.Device.{HasLive, HasSegments, HasSpareBlock, IsOnMedium}
 use Rattle.nl_device.specs.Opening.{IsOpenedVirtual, SaysErased, needed_of, pick_of, place_on}
@@ -110,7 +110,7 @@ below_next image r is =
     omega (arith, le)
 
 -- each stamp that the image shows is below the next one
-pub opened_below : (image : Image) (t : Table) → IsTableOf image t → (bound v s : ℕ) (n : List ℕ) → Shows bound image v s n → s < 1 + greatest_stamp t.seen
+pub opened_below : (image : Image) (t : ScanTable) → IsTableOf image t → (bound v s : ℕ) (n : List ℕ) → PageShows bound image v s n → s < 1 + greatest_stamp t.seen
 opened_below image t is bound v s n shows =
     let r = shown_listed image shows.0 v s n shows.2 in
     let less = below_next image r.0 r.1 in
@@ -146,14 +146,14 @@ from_placed None place is = absurd (none-some place is)
 from_placed (Some r) place is = (r, refl, same_Some (place_for r) place is)
 
 -- the pages of a block that the table says is erased
-pub erased_in : (image : Image) (t : Table) → IsTableOf image t → 0 < (shape_of_image image).pages → (p : ℕ) → p / (shape_of_image image).pages < image.blocks → SaysErased t (p / (shape_of_image image).pages) → page_at image p ≡ erased
+pub erased_in : (image : Image) (t : ScanTable) → IsTableOf image t → 0 < (shape_of_image image).pages → (p : ℕ) → p / (shape_of_image image).pages < image.blocks → SaysErased t (p / (shape_of_image image).pages) → page_at image p ≡ erased
 erased_in image t is some p within says =
     let size = (shape_of_image image).pages in
     let at = in_block p size (p / size) some refl in
     let same = pages_is image in
     (is.each_block (p / size) within).0 says p (subst (λ n. p / size * n ≤ p) same at.0) (subst (λ n. p < p / size * n + n) same at.1)
 
-module _ (image : Image) (t : Table) (vseg : Segment) (is : IsTableOf image t) (opened : IsOpenedVirtual (shape_of_image image) t vseg) where
+module _ (image : Image) (t : ScanTable) (vseg : Segment) (is : IsTableOf image t) (opened : IsOpenedVirtual (shape_of_image image) t vseg) where
   -- the place of an address is that of its newest page
   pub opened_place : (v : ℕ) → v < (shape_of_image image).vaddrs → place_of vseg.places v ≡ option_map place_for (newest image v)
   opened_place v below =
@@ -173,7 +173,7 @@ module _ (image : Image) (t : Table) (vseg : Segment) (is : IsTableOf image t) (
     | inr past ↦ absurd (none-some place (sym (opened_past v past) ∙ at))
   ]
 
-  pub opened_holds : Holds image vseg.places
+  pub opened_holds : PlacesShow image vseg.places
   opened_holds v place at =
       let f = opened_from v place at in
       let r = f.0 in
@@ -182,7 +182,7 @@ module _ (image : Image) (t : Table) (vseg : Segment) (is : IsTableOf image t) (
       subst (λ (x : Place). fact_of (page_at image x.page) ≡ Some (v, x.stamp, main_of (page_at image x.page))) f.2
       (shown.shows ∙ (λ i. Some (n.1 i, stamp_on r, sym shown.bytes i)))
 
-  pub opened_erased : 0 < (shape_of_image image).pages → (shape_of_image image).vblocks ≤ image.blocks → (p : ℕ) → is_blank vseg p ≡ true → page_at image p ≡ erased
+  pub opened_erased : 0 < (shape_of_image image).pages → (shape_of_image image).vblocks ≤ image.blocks → (p : ℕ) → is_taken_as_erased vseg p ≡ true → page_at image p ≡ erased
   opened_erased some few p blank =
       let shape = shape_of_image image in
       let b = opened.blank p blank in
@@ -204,13 +204,13 @@ module _ (image : Image) (t : Table) (vseg : Segment) (is : IsTableOf image t) (
   opened_map_past v past = ap (value_at image) (opened_past v past)
 
   -- each value of the map is shown in the segment
-  pub opened_there : (v s : ℕ) (main : List ℕ) → map_of vseg.places image v ≡ Some (s, main) → Shows (first_physical (shape_of_image image)) image v s main
+  pub opened_there : (v s : ℕ) (main : List ℕ) → map_of vseg.places image v ≡ Some (s, main) → PageShows (first_physical (shape_of_image image)) image v s main
   opened_there v s main value = elim (cases_lt v (shape_of_image image).vaddrs) [
     | inr past ↦ absurd (none-some (s, main) (sym (opened_map_past v past) ∙ value))
     | inl below ↦ by (newest image v) refl (sym (opened_map v below) ∙ value)
   ]
     where
-      by : (o : Option Readable) → newest image v ≡ o → option_map value_on o ≡ Some (s, main) → Shows (first_physical (shape_of_image image)) image v s main
+      by : (o : Option Readable) → newest image v ≡ o → option_map value_on o ≡ Some (s, main) → PageShows (first_physical (shape_of_image image)) image v s main
       by None e has = absurd (none-some (s, main) has)
       by (Some r) e has =
           let n = newest_from image v r e in
@@ -219,8 +219,8 @@ module _ (image : Image) (t : Table) (vseg : Segment) (is : IsTableOf image t) (
           (r.page, shown.within, shown.shows ∙ (λ i. Some (n.1 i, (same i).0, (same i).1)))
 
 -- the medium of a device that was opened so
-pub opened_on : {geometry : Geometry} {shape : Shape} {vseg : Segment} {pseg : Named} {image : Image} (t : Table) → HasSegments geometry shape vseg pseg → ImageOf geometry image → HasLive pseg → IsPhysicalOf image pseg
-    → IsTableOf image t → IsOpenedVirtual shape t vseg → ((p : ℕ) (page : NamedPage) → (stored_in image).named p ≡ Some page → page.stamp + 1 ≤ 1 + greatest_stamp t.seen) → pseg.pairs ≡ [] → HasSpareBlock pseg → HasSpare image pseg
+pub opened_on : {geometry : Geometry} {shape : Shape} {vseg : Segment} {pseg : Named} {image : Image} (t : ScanTable) → HasSegments geometry shape vseg pseg → ImageOf geometry image → HasLive pseg → IsPhysicalOf image pseg
+    → IsTableOf image t → IsOpenedVirtual shape t vseg → ((p : ℕ) (page : NamedPage) → (stored_in image).named p ≡ Some page → page.stamp + 1 ≤ 1 + greatest_stamp t.seen) → pseg.pairs ≡ [] → HasSpareBlock pseg → CanSpareBlock image pseg
     → IsOnMedium shape (1 + greatest_stamp t.seen) image vseg pseg
 opened_on {geometry} {shape} {vseg} {pseg} {image} t segments fit live physical is opened named none spare on =
     let e = shape_is segments fit in
@@ -230,6 +230,6 @@ opened_on {geometry} {shape} {vseg} {pseg} {image} t segments fit live physical 
     let blocks = fit.blocks ∙ segments.blocks in
     let few : (shape_of_image image).vblocks ≤ image.blocks = subst (λ (s : Shape). s.vblocks ≤ image.blocks) (sym e) (omega (arith, split, blocks)) in
     made_medium segments fit live (opened_segment image t vseg is own some few) physical
-    (subst (λ s. (v n : ℕ) (main : List ℕ) → map_of vseg.places image v ≡ Some (n, main) → Shows (first_physical s) image v n main) e (opened_there image t vseg is own))
+    (subst (λ s. (v n : ℕ) (main : List ℕ) → map_of vseg.places image v ≡ Some (n, main) → PageShows (first_physical s) image v n main) e (opened_there image t vseg is own))
     (λ v s n shows. opened_below image t is (shape.vblocks * shape.pages) v s n shows)
     named spare on (names_alone shape pseg (λ p. bytes_at (shape.vblocks * shape.pages) image p) (stored_in image) none (live_held segments fit live physical))

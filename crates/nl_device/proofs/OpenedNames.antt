@@ -8,7 +8,7 @@ use Rattle.nl_field.specs.Numbers.{shape_for}
 use Rattle.nl_field.specs.Page.{Image}
 use Rattle.nl_field.specs.Medium.{shape_of_image}
 use Rattle.nl_field.specs.declared.shape.Shape.{Shape}
-use Rattle.nl_scan.specs.Tables.{IsTableOf, Table}
+use Rattle.nl_scan.specs.Tables.{IsTableOf, ScanTable}
 use Rattle.nl_pseg.specs.Segment.{IsPhysicalOf, Physical, held_at}
 use Rattle.nl_pseg.specs.declared.held.Held.{Held}
 use Rattle.nl_device.specs.Device.{HasLive}
@@ -21,21 +21,21 @@ none_in n p o = elim (cases_lt p n) [
   | inr past ↦ get_or_past (replicate n o) p o (let e = length-replicate n o in omega (arith, e, past))
 ]
 
-pub none_held : (shape : Shape) (t : Table) (pseg : Physical) → IsOpenedPhysical shape t pseg → (p : ℕ) → held_at pseg p ≡ None
+pub none_held : (shape : Shape) (t : ScanTable) (pseg : Physical) → IsOpenedPhysical shape t pseg → (p : ℕ) → held_at pseg p ≡ None
 none_held shape t pseg opened p = ap (λ (l : List (Option Held)). get_or l p None) opened.none_held ∙ none_in (shape.blocks * shape.pages) p None
 
 blocks_is : (image : Image) → (shape_of_image image).blocks ≡ image.blocks
 unfolding shape_for
 blocks_is image = refl
 
-pub opened_live : (shape : Shape) (t : Table) (pseg : Physical) → IsOpenedPhysical shape t pseg → HasLive pseg
+pub opened_live : (shape : Shape) (t : ScanTable) (pseg : Physical) → IsOpenedPhysical shape t pseg → HasLive pseg
 opened_live shape t pseg opened = record {
   in_segment = λ p h has. absurd (none-some h (sym (none_held shape t pseg opened p) ∙ has));
   blank_in = opened.within;
   differ = λ p q g h p_has q_has same. absurd (none-some g (sym (none_held shape t pseg opened p) ∙ p_has));
 }
 
-pub opened_names : (image : Image) (t : Table) (pseg : Physical) → IsTableOf image t → IsOpenedPhysical (shape_of_image image) t pseg → 0 < (shape_of_image image).pages → IsPhysicalOf image pseg
+pub opened_names : (image : Image) (t : ScanTable) (pseg : Physical) → IsTableOf image t → IsOpenedPhysical (shape_of_image image) t pseg → 0 < (shape_of_image image).pages → IsPhysicalOf image pseg
 opened_names image t pseg is opened some =
     let shape = shape_of_image image in
     record {

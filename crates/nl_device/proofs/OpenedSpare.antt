@@ -6,7 +6,7 @@ use Rattle.std.proofs.lemmas.Option.{none-some, same_Some}
 use Rattle.nl_field.specs.Page.{Image}
 use Rattle.nl_field.specs.Medium.{Readable, address_on, shape_of_image, stamp_on, virtual_pages}
 use Rattle.nl_field.specs.Space.{has_greatest_stamp, virtual_spare}
-use Rattle.nl_scan.specs.Tables.{IsTableOf, Table}
+use Rattle.nl_scan.specs.Tables.{IsTableOf, ScanTable}
 use Rattle.nl_vseg.proofs.Members.{In, any_from, filter_from, filter_to}
 use Rattle.nl_vseg.proofs.Newest.{from_pages}
 use Rattle.nl_device.specs.Opening.{Tabulates, needed_of, spread_in}
@@ -88,7 +88,7 @@ module _ (pages : List Readable) where
         same_spread (by_key (λ (o : Own). o.vaddr) (λ s (o : Own). spread_more s (o.page / size)) Nowhere g needed) (LiesIn (λ (o : Own). o.vaddr) (λ (o : Own). o.page / size) g needed) (GroupLiesIn size pages group_of g)
         lies_to lies_from (fold_spread (λ (o : Own). o.vaddr) (λ (o : Own). o.page / size) g needed)
 
-module _ (image : Image) (t : Table) (spreads : List Spread) (is : IsTableOf image t)
+module _ (image : Image) (t : ScanTable) (spreads : List Spread) (is : IsTableOf image t)
     (are : Tabulates (shape_of_image image).vaddrs Nowhere (spread_in (shape_of_image image).pages (needed_of (shape_of_image image) t.seen)) spreads) where
   are_grouped : AreGrouped image.pages (virtual_pages image) (has_greatest_stamp (virtual_pages image)) is_copy (group_of (virtual_pages image)) spreads
   are_grouped = record {

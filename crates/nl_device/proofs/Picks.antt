@@ -5,7 +5,7 @@ use Rattle.std.proofs.lemmas.Bool.{and_from, and_parts, cases_Bool, cond-true, c
 use Rattle.std.proofs.lemmas.Option.{none-some, same_Some}
 use Rattle.nl_field.specs.Space.{is_outside}
 use Rattle.nl_vseg.proofs.Members.{In, find_in}
-use Rattle.nl_device.specs.Opening.{filled, first_outside, or_else, pick_of, with_pick}
+use Rattle.nl_device.specs.Opening.{with_offers, first_outside, or_else, pick_of, with_pick}
 use Rattle.nl_device.specs.declared.opening.own.Own.{Own}
 
 or_none : {X : Type 0} (o : Option X) → or_else o None ≡ o
@@ -56,14 +56,14 @@ module _ (size : ℕ) (spare : Option ℕ) (v : ℕ) where
   fold_is os None = fold_none os
   fold_is os (Some x) = fold_some os x
 
-pub filled_is : (size : ℕ) (spare : Option ℕ) (needed : List Own) (pick : Option Own) (v : ℕ) → filled size spare needed pick v ≡ or_else pick (first_outside size spare needed v)
-unfolding filled
+pub filled_is : (size : ℕ) (spare : Option ℕ) (needed : List Own) (pick : Option Own) (v : ℕ) → with_offers size spare needed pick v ≡ or_else pick (first_outside size spare needed v)
+unfolding with_offers
 filled_is size spare needed pick v = fold_is size spare v needed pick
 
 -- two fillings, outside the block first
-pub picked : (size : ℕ) (spare : Option ℕ) (needed : List Own) (v : ℕ) → filled size None needed (filled size spare needed None v) v ≡ pick_of size spare needed v
+pub picked : (size : ℕ) (spare : Option ℕ) (needed : List Own) (v : ℕ) → with_offers size None needed (with_offers size spare needed None v) v ≡ pick_of size spare needed v
 unfolding pick_of
-picked size spare needed v = filled_is size None needed (filled size spare needed None v) v ∙ ap (λ o. or_else o (first_outside size None needed v)) (filled_is size spare needed None v)
+picked size spare needed v = filled_is size None needed (with_offers size spare needed None v) v ∙ ap (λ o. or_else o (first_outside size None needed v)) (filled_is size spare needed None v)
 
 pub find_passes : {X : Type 0} (p : X → Bool) (xs : List X) (x : X) → find p xs ≡ Some x → p x ≡ true
 find_passes p [] x is = absurd (none-some x is)

@@ -7,9 +7,9 @@ use Rattle.nl_field.specs.declared.answers.Named.TheVariants as named
 use Rattle.nl_field.specs.declared.pointer.Pointer.{Pointer}
 use Rattle.nl_iface.specs.Answers as shown
 use Rattle.nl_iface.specs.Counting.{FailuresCounted, StampRises}
-use Rattle.nl_iface.specs.Space.{WriteFailed}
-use Rattle.nl_pseg.specs.Answers.{IfPlaced, IsFault, IsPlaced, Names}
-use Rattle.nl_pseg.specs.Segment.{IsClean, IsReady, IsSpent, IsUnspent, Physical, SamePages, room}
+use Rattle.nl_iface.specs.Space.{FailsToWrite}
+use Rattle.nl_pseg.specs.Answers.{IfPlaced, IsWriteFault, IsPlaced, NamesPage}
+use Rattle.nl_pseg.specs.Segment.{IsClean, NeedsNoErase, IsSpent, IsUnspent, Physical, SameBlocksAndPages, room}
 use Rattle.nl_pseg.specs.Space.{HasRoomForVictim, SameCleaning}
 use Rattle.nl_device.specs.Space.{space_of}
 use Rattle.nl_device.specs.Stamps.{is_tried}
@@ -45,7 +45,7 @@ from_placed named.NotLive h = h
 from_placed named.NoPage h = h
 from_placed named.Fault h = h
 
-pub fault_if : (answer : Named) (P : Type 0) → (answer ≡ named.Fault → P) → shown.IfFault answer P
+pub fault_if : (answer : Named) (P : Type 0) → (answer ≡ named.Fault → P) → shown.IfWriteFault answer P
 fault_if (named.Placed at) P by = tt
 fault_if named.NotLive P by = tt
 fault_if named.NoPage P by = tt
@@ -77,7 +77,7 @@ unfolding space_of
 room_is seg = refl
 
 -- what holds of a page of that number holds of the name that is told
-pub named_has : (answer : Named) (page stamp : ℕ) (P : ℕ → Type 0) → Names page stamp answer → P page → shown.IfPlaced answer (λ at. P at.name)
+pub named_has : (answer : Named) (page stamp : ℕ) (P : ℕ → Type 0) → NamesPage page stamp answer → P page → shown.IfPlaced answer (λ at. P at.name)
 named_has answer page stamp P is has = placed_map answer (λ at. at ≡ record { name = page; stamp = stamp }) (λ at. P at.name) is (λ at e same. subst P (sym (ap (λ (p : Pointer). p.name) same)) has)
 
 pub if_not_placed : (answer : Named) (P : Pointer → Type 0) → (IsPlaced answer → ⊥) → shown.IfPlaced answer P
@@ -96,19 +96,19 @@ pub not_tried : (answer : Named) → (answer ≡ named.NotLive) ⊎ (answer ≡ 
 not_tried answer (inl is) = ap is_tried is
 not_tried answer (inr is) = ap is_tried is
 
-pub fault_space : (answer : Named) (old new : Physical) → SamePages old new → ((IsPlaced answer → ⊥) → SameCleaning old new) → ((IsPlaced answer → ⊥) → HasRoomForVictim old → HasRoomForVictim new) → (IsFault answer → IsSpent old new ⊎ (IsUnspent old new × (IsReady old → ⊥))) → ((IsPlaced answer → ⊥) → new.held ≡ old.held) → ((IsPlaced answer → ⊥) → new.pairs ≡ old.pairs)
-    → shown.IfFault answer (WriteFailed (space_of old) (space_of new))
-fault_space answer old new same cleaning lands fails held pairs = fault_if answer (WriteFailed (space_of old) (space_of new)) (λ is.
+pub fault_space : (answer : Named) (old new : Physical) → SameBlocksAndPages old new → ((IsPlaced answer → ⊥) → SameCleaning old new) → ((IsPlaced answer → ⊥) → HasRoomForVictim old → HasRoomForVictim new) → (IsWriteFault answer → IsSpent old new ⊎ (IsUnspent old new × (NeedsNoErase old → ⊥))) → ((IsPlaced answer → ⊥) → new.held ≡ old.held) → ((IsPlaced answer → ⊥) → new.pairs ≡ old.pairs)
+    → shown.IfWriteFault answer (FailsToWrite (space_of old) (space_of new))
+fault_space answer old new same cleaning lands fails held pairs = fault_if answer (FailsToWrite (space_of old) (space_of new)) (λ is.
     write_failed old new same (cleaning (fault_no answer is)) (lands (fault_no answer is)) (⊎_elim (λ s. inl s) (λ u. inr u.0) (fails is)) (held (fault_no answer is)) (pairs (fault_no answer is)))
 
-pub fault_room : (answer : Named) (old new : Physical) → IsClean old → (IsFault answer → IsSpent old new ⊎ (IsUnspent old new × (IsReady old → ⊥))) → shown.IfFault answer ((space_of new).room + 1 ≡ (space_of old).room)
+pub fault_room : (answer : Named) (old new : Physical) → IsClean old → (IsWriteFault answer → IsSpent old new ⊎ (IsUnspent old new × (NeedsNoErase old → ⊥))) → shown.IfWriteFault answer ((space_of new).room + 1 ≡ (space_of old).room)
 fault_room answer old new clean fails = fault_if answer ((space_of new).room + 1 ≡ (space_of old).room) (λ is.
     ⊎_elim
     (λ s. ap (λ n. n + 1) (room_is new) ∙ (s.room ∙ sym (room_is old)))
     (λ u. absurd (u.1 (inr clean)))
     (fails is))
 
-pub counted : (exact : Type 0) (answer : Named) (before now : ℕ) → before ≤ now → (IsFault answer → now ≡ saturated (before + 1)) → ((IsFault answer → ⊥) → now ≡ before) → FailuresCounted exact before now (answer ≡ named.Fault)
+pub counted : (exact : Type 0) (answer : Named) (before now : ℕ) → before ≤ now → (IsWriteFault answer → now ≡ saturated (before + 1)) → ((IsWriteFault answer → ⊥) → now ≡ before) → FailuresCounted exact before now (answer ≡ named.Fault)
 counted exact answer before now more fails well = record {
   never_falls = more;
   cause = λ is. let e = fails is in omega (arith, e);
@@ -117,11 +117,11 @@ counted exact answer before now more fails well = record {
 }
 
 -- the next stamp rises by one where a page was tried, and by no more than the counts do
-pub named_rises : (answer : Named) (tried : Bool) (now next clock clock_now faults faults_now : ℕ) → now ≡ next + cond tried 1 0 → tried ≡ is_tried answer → clock ≤ clock_now → faults ≤ faults_now → (IsPlaced answer → Earlier clock clock_now) → (IsFault answer → faults_now ≡ saturated (faults + 1))
+pub named_rises : (answer : Named) (tried : Bool) (now next clock clock_now faults faults_now : ℕ) → now ≡ next + cond tried 1 0 → tried ≡ is_tried answer → clock ≤ clock_now → faults ≤ faults_now → (IsPlaced answer → Earlier clock clock_now) → (IsWriteFault answer → faults_now ≡ saturated (faults + 1))
     → StampRises (shown.IsTriedNamed answer) next now clock clock_now faults faults_now
 named_rises answer tried now next clock clock_now faults faults_now is tried_is later more strict fails = by answer (is ∙ ap (λ b. next + cond b 1 0) tried_is) strict fails
   where
-    by : (answer : Named) → now ≡ next + cond (is_tried answer) 1 0 → (IsPlaced answer → Earlier clock clock_now) → (IsFault answer → faults_now ≡ saturated (faults + 1)) → StampRises (shown.IsTriedNamed answer) next now clock clock_now faults faults_now
+    by : (answer : Named) → now ≡ next + cond (is_tried answer) 1 0 → (IsPlaced answer → Earlier clock clock_now) → (IsWriteFault answer → faults_now ≡ saturated (faults + 1)) → StampRises (shown.IsTriedNamed answer) next now clock clock_now faults faults_now
     by (named.Placed at) one strict fails = record {
       never_falls = omega (arith, one);
       at_most_one = omega (arith, one);

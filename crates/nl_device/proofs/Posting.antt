@@ -7,7 +7,7 @@ use Rattle.nl_callbacks.specs.declared.entry.Entry.{Entry}
 use Rattle.nl_iface.specs.Moves.{Copies}
 use Rattle.nl_iface.specs.Names.{Has}
 use Rattle.nl_iface.specs.declared.Callback.{Callback}
-use Rattle.nl_pseg.specs.Cleaning.{Moves}
+use Rattle.nl_pseg.specs.Cleaning.{MovesLivePage}
 use Rattle.nl_pseg.specs.Segment.{Physical, held_at}
 use Rattle.nl_pseg.specs.declared.held.Held.{Held}
 use Rattle.nl_device.specs.Callbacks.{callbacks_of, handled_in, names_with}
@@ -48,7 +48,7 @@ handled_old [] (suc at) e n off = cond-false (number_of e == n) e.transaction No
 handled_old (x ∷ es) (suc at) e n off = ap (λ o. cond (number_of x == n) x.transaction o) (handled_old es at e n off)
 
 -- a move shows one page moved, under one new callback
-pub copies : (before after number : ℕ) (tag : Tag) (stamp : ℕ) (old new : Physical) (t u : PendingTable) → Moves before after (record { tag = tag; stamp = stamp }) old new
+pub copies : (before after number : ℕ) (tag : Tag) (stamp : ℕ) (old new : Physical) (t u : PendingTable) → MovesLivePage before after (record { tag = tag; stamp = stamp }) old new
     → before < length old.held → after < length old.held → (IsPending t.callbacks number → ⊥) → (t.posted + 1 < 2 ^ 64 → number ≡ t.posted + 1) → t.posted < 2 ^ 64
     → u.callbacks ≡ insert t.callbacks (place_of t.callbacks number) (new_entry (callback_of number before after tag stamp)) → u.posted ≡ min (t.posted + 1) (2 ^ 64 - 1)
     → Copies (callback_of number before after tag stamp) (names_with old t) (names_with new u)

@@ -14,7 +14,7 @@ use Rattle.nl_field.specs.declared.spare.SpareRec.TheVariants.{Virtual, Physical
 use Rattle.nl_iface.specs.Names.{LivePage}
 use Rattle.nl_iface.specs.Stored.{NamedPage, stored_in}
 use Rattle.nl_pseg.specs.Pages.{main_of, shown_by, shown_with}
-use Rattle.nl_scan.specs.Tables.{IsTableOf, Table, greatest_stamp}
+use Rattle.nl_scan.specs.Tables.{IsTableOf, ScanTable, greatest_stamp}
 use Rattle.nl_device.specs.Device.{IsFoundStored}
 use Rattle.nl_device.specs.Kept.{KeptPages, kept_pages, spare_among}
 use Rattle.nl_device.specs.Retain.{CanRetain, spare_for}
@@ -49,7 +49,7 @@ image_pages : (image : Image) → (shape_of_image image).pages ≡ image.pages
 unfolding shape_for
 image_pages image = refl
 
-kept_of : (shape : Shape) (image : Image) (t : Table) (kept : KeptPages) → shape_of_image image ≡ shape → IsTableOf image t
+kept_of : (shape : Shape) (image : Image) (t : ScanTable) (kept : KeptPages) → shape_of_image image ≡ shape → IsTableOf image t
     → kept ≡ record { first = shape.vblocks; count = shape.pblocks; size = shape.pages; pages = kept_pages (first_physical shape) t.seen } → IsOf image kept
 kept_of shape image t kept e is same = record {
   first = ap (λ (k : KeptPages). k.first) same ∙ ap (λ (s : Shape). s.vblocks) (sym e);
@@ -67,7 +67,7 @@ page_found kept p page is = by (find (λ k. k.page == p) kept.pages) refl is
     by (Some k) some e = (k, some, ap (λ (x : LivePage). x.stamp) (same_Some (found_on k) page e))
 
 -- no page under a name has the next stamp or a later one
-pub named_after : (shape : Shape) (image : Image) (t : Table) (kept : KeptPages) → shape_of_image image ≡ shape → IsTableOf image t
+pub named_after : (shape : Shape) (image : Image) (t : ScanTable) (kept : KeptPages) → shape_of_image image ≡ shape → IsTableOf image t
     → kept ≡ record { first = shape.vblocks; count = shape.pblocks; size = shape.pages; pages = kept_pages (first_physical shape) t.seen }
     → (p : ℕ) (n : NamedPage) → (stored_in image).named p ≡ Some n → n.stamp + 1 ≤ 1 + greatest_stamp t.seen
 named_after shape image t kept e is same p n stored =
@@ -78,7 +78,7 @@ named_after shape image t kept e is same p n stored =
     omega (arith, lt, stamp)
 
 -- what was kept of a scan of the medium is stored there
-pub found_holds : (shape : Shape) (image : Image) (t : Table) (kept : KeptPages) → shape_of_image image ≡ shape → IsTableOf image t
+pub found_holds : (shape : Shape) (image : Image) (t : ScanTable) (kept : KeptPages) → shape_of_image image ≡ shape → IsTableOf image t
     → kept ≡ record { first = shape.vblocks; count = shape.pblocks; size = shape.pages; pages = kept_pages (first_physical shape) t.seen }
     → IsFoundStored kept (bytes_at (shape.vblocks * shape.pages) image) (stored_in image)
 found_holds shape image t kept e is same =

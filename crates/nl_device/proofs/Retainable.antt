@@ -13,7 +13,7 @@ use Rattle.nl_field.specs.declared.shape.Shape.{Shape}
 use Rattle.nl_field.specs.ScanList.{is_lost_seen}
 use Rattle.nl_device.specs.Kept.{KeptPages, is_at_name, kept_of_scan, place_among, spare_among}
 use Rattle.nl_device.specs.Reopened.{CanBeRetained}
-use Rattle.nl_device.specs.Retain.{CanRetain, is_lost}
+use Rattle.nl_device.specs.Retain.{CanRetain, is_stale}
 use Rattle.nl_device.specs.declared.kept.page.KeptPage.{KeptPage}
 use Rattle.nl_device.proofs.Alone.{Passes, both, can_erase, finds_one, found_passes, has_copy, is_copy}
 use Rattle.nl_device.proofs.Found.{lost_is, owns_is, spare_is, stamp_is}
@@ -73,5 +73,5 @@ can_be_retained shape seen pointers can = record {
   differ = can.differ;
   names_differ = can.names_differ;
   own = λ i d within. owns_is shape seen (get_or pointers i d) ∙ can.own i d within;
-  few_lost = subst (λ (l : List Pointer). length l ≤ 3 * shape.pages) (sym (filter_agree (is_lost (kept_of_scan shape seen)) (is_lost_seen shape seen) (lost_is shape seen) pointers)) can.few_lost;
+  few_lost = subst (λ (l : List Pointer). length l ≤ 3 * shape.pages) (sym (filter_agree (is_stale (kept_of_scan shape seen)) (is_lost_seen shape seen) (lost_is shape seen) pointers)) can.few_lost;
 }

@@ -23,7 +23,7 @@ use Rattle.nl_field.specs.declared.seen.Seen.{Seen}
 use Rattle.nl_vseg.specs.Segment.{Segment}
 use Rattle.nl_device.specs.Device.{HasFound, HasLive, HasSegments, HasSpareBlock, IsDevice}
 use Rattle.nl_device.specs.Kept.{KeptPages, kept_pages}
-use Rattle.nl_device.specs.Retain.{IsFresh, IsSegmentFor}
+use Rattle.nl_device.specs.Retain.{IsFreshSegment, IsSegmentFor}
 use Rattle.nl_device.proofs.Retaining.{IsFoundIn}
 use Rattle.nl_device.specs.Shown.{bytes_at, found_in, live_page, names_of}
 use Rattle.nl_device.specs.Space.{live_in, space_of}
@@ -62,7 +62,7 @@ pub all_free : {geometry : Geometry} {shape : Shape} {vseg : Segment} {pseg : Ph
 all_free {pseg = pseg} has free = (λ i. has.physical_first i + (sym (free_is pseg) ∙ free) i) ∙ has.split ∙ sym has.physical_blocks
 
 pub is_fresh : {geometry : Geometry} {shape : Shape} {vseg : Segment} {old new : Physical} → HasSegments geometry shape vseg old → old.pairs ≡ [] → ((p : ℕ) → (names_of old).live p ≡ None) → new.held ≡ old.held → new.pairs ≡ old.pairs → new.blocks ≡ old.blocks
-    → new.size ≡ old.size → ((block : ℕ) → new.first ≤ block → block < new.blocks → is_kept new block ≡ true) → IsWhole new → new.victim ≡ None → IsFresh new
+    → new.size ≡ old.size → ((block : ℕ) → new.first ≤ block → block < new.blocks → is_kept new block ≡ true) → IsWhole new → new.victim ≡ None → IsFreshSegment new
 is_fresh {old = old} has none dead held pairs blocks size each whole hand = record {
   whole = whole;
   none_in_hand = hand;

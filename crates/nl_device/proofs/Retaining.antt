@@ -14,8 +14,8 @@ use Rattle.nl_callbacks.specs.Pending.{PendingTable}
 use Rattle.nl_pseg.specs.Segment.{InSegment, Physical, held_at, is_kept}
 use Rattle.nl_pseg.specs.Space.{waiting}
 use Rattle.nl_pseg.specs.declared.held.Held.{Held}
-use Rattle.nl_device.specs.Kept.{IsKept, KeptPages, place_among, spare_among}
-use Rattle.nl_device.specs.Retain.{CanLoad, CanRetain, HasCalled, HasLoaded, IsFresh, IsSegmentFor, Loads, held_for, is_moved, is_taken, lies_in, needed_blocks, owns_name, place_for, retained_at, spare_for}
+use Rattle.nl_device.specs.Kept.{AreKeptPages, KeptPages, place_among, spare_among}
+use Rattle.nl_device.specs.Retain.{CanLoadPointer, CanRetain, HasCalled, HasLoaded, IsFreshSegment, IsSegmentFor, LoadsPointer, held_for, is_moved, is_taken, lies_in, needed_blocks, owns_name, place_for, retained_at, spare_for}
 use Rattle.nl_device.specs.declared.kept.copies.Copies.{Copies}
 use Rattle.nl_device.specs.declared.kept.page.KeptPage.{KeptPage}
 use Rattle.nl_device.specs.Space.{live_in}
@@ -32,7 +32,7 @@ pub record IsFoundIn (kept : KeptPages) (seg : Physical) (page : ℕ) (h : Held)
   pub within : InSegment seg page
   pub found : find (λ k. k.page == page) kept.pages ≡ Some (record { page = page; stamp = h.stamp; tag = h.tag })
 
-module _ (kept : KeptPages) (copies : BTreeMap ℕ Copies) (pointers : List Pointer) (is : IsKept kept copies) (can : CanRetain kept pointers) where
+module _ (kept : KeptPages) (copies : BTreeMap ℕ Copies) (pointers : List Pointer) (is : AreKeptPages kept copies) (can : CanRetain kept pointers) where
   abbrev Listed : ℕ → Pointer → Type 0
   Listed i p = slice_get pointers i ≡ Some p
 
@@ -86,7 +86,7 @@ module _ (kept : KeptPages) (copies : BTreeMap ℕ Copies) (pointers : List Poin
       let a = there_at i p first in
       sym a.stamp ∙ owns j q second a.kept_page (ap (λ n. find (λ (k : KeptPage). k.page == n) kept.pages) (sym same) ∙ a.found)
 
-  pub can_load : (at : ℕ) (p : Pointer) (old seg : Physical) (t_old t : PendingTable) → HasLoaded kept pointers at old seg → HasCalled kept pointers at seg t_old t → Listed at p → CanLoad kept (spare_for kept pointers) p seg t
+  pub can_load : (at : ℕ) (p : Pointer) (old seg : Physical) (t_old t : PendingTable) → HasLoaded kept pointers at old seg → HasCalled kept pointers at seg t_old t → Listed at p → CanLoadPointer kept (spare_for kept pointers) p seg t
   can_load at p old seg t_old t loaded called here = record {
     page = place p;
     place = placed_for at p here;
@@ -120,7 +120,7 @@ module _ (kept : KeptPages) (copies : BTreeMap ℕ Copies) (pointers : List Poin
       roomy away = room_for kept pointers at p is.some can here (ap not (ne_eqb (place p) p.name (λ same. away (sym same))))
 
 -- before the first pointer
-pub loaded_none : (kept : KeptPages) (pointers : List Pointer) (seg : Physical) → IsSegmentFor kept seg → IsFresh seg → HasLoaded kept pointers 0 seg seg
+pub loaded_none : (kept : KeptPages) (pointers : List Pointer) (seg : Physical) → IsSegmentFor kept seg → IsFreshSegment seg → HasLoaded kept pointers 0 seg seg
 loaded_none kept pointers seg same fresh = record {
   segment = same;
   listed = λ i p less is. absurd (omega (arith, less));
@@ -152,9 +152,9 @@ taken_more kept spare pointers at p page block here placed =
     ∙ list_any-append test (take at pointers) (p ∷ [])
     ∙ ap (λ b. is_taken kept spare (take at pointers) block || b) (or_false (lies_in kept.size block (place_among kept spare p)) ∙ ap (lies_in kept.size block) placed)
 
-module _ (kept : KeptPages) (copies : BTreeMap ℕ Copies) (pointers : List Pointer) (is : IsKept kept copies) (can : CanRetain kept pointers) (at : ℕ) (p : Pointer) (old seg new : Physical) (t_old t : PendingTable)
-    (fresh : IsFresh old) (first : IsSegmentFor kept old) (loaded : HasLoaded kept pointers at old seg) (called : HasCalled kept pointers at seg t_old t) (here : slice_get pointers at ≡ Some p) (loads : Loads kept (retained_at kept pointers p) p seg new) where
-  able : CanLoad kept (spare_for kept pointers) p seg t
+module _ (kept : KeptPages) (copies : BTreeMap ℕ Copies) (pointers : List Pointer) (is : AreKeptPages kept copies) (can : CanRetain kept pointers) (at : ℕ) (p : Pointer) (old seg new : Physical) (t_old t : PendingTable)
+    (fresh : IsFreshSegment old) (first : IsSegmentFor kept old) (loaded : HasLoaded kept pointers at old seg) (called : HasCalled kept pointers at seg t_old t) (here : slice_get pointers at ≡ Some p) (loads : LoadsPointer kept (retained_at kept pointers p) p seg new) where
+  able : CanLoadPointer kept (spare_for kept pointers) p seg t
   able = can_load kept copies pointers is can at p old seg t_old t loaded called here
 
   is_there : IsThere kept (spare_for kept pointers) p (retained_at kept pointers p)
@@ -264,7 +264,7 @@ spare_untaken kept spare (p ∷ rest) block all =
     let here : lies_in kept.size block (place_among kept spare p) ≡ false = ap (lies_in kept.size block) one.1 ∙ other_number (one.0 / kept.size) block one.2 in
     λ i. here i || spare_untaken kept spare rest block (λ j. all (suc j)) i
 
-module _ (kept : KeptPages) (copies : BTreeMap ℕ Copies) (pointers : List Pointer) (is : IsKept kept copies) (can : CanRetain kept pointers) (old seg : Physical) (loaded : HasLoaded kept pointers (length pointers) old seg) where
+module _ (kept : KeptPages) (copies : BTreeMap ℕ Copies) (pointers : List Pointer) (is : AreKeptPages kept copies) (can : CanRetain kept pointers) (old seg : Physical) (loaded : HasLoaded kept pointers (length pointers) old seg) where
   taken_all : (block : ℕ) → is_taken kept (spare_for kept pointers) (take (length pointers) pointers) block ≡ is_taken kept (spare_for kept pointers) pointers block
   taken_all block = ap (λ (l : List Pointer). is_taken kept (spare_for kept pointers) l block) (take_all (length pointers) pointers (omega arith))
 

@@ -13,11 +13,11 @@ use Rattle.nl_field.specs.declared.seen.Seen.{Seen}
 use Rattle.nl_field.specs.declared.shape.Shape.{Shape}
 use Rattle.nl_field.specs.declared.spare.SpareRec.{SpareRec}
 use Rattle.nl_field.specs.declared.spare.SpareRec.TheVariants.{Virtual, Physical}
-use Rattle.nl_scan.specs.Tables.{Table}
+use Rattle.nl_scan.specs.Tables.{ScanTable}
 use Rattle.nl_vseg.proofs.Members.{In, filter_to, find_in}
 use Rattle.nl_vseg.proofs.Places.{beside_of}
 use Rattle.nl_vseg.specs.Places.{place_of}
-use Rattle.nl_vseg.specs.Segment.{KeepsSpare, Segment}
+use Rattle.nl_vseg.specs.Segment.{SegmentHasUnmapped, Segment}
 use Rattle.nl_vseg.specs.declared.place.Place.{Place}
 use Rattle.nl_device.specs.Opening.{IsOpenedVirtual, Tabulates, first_outside, needed_of, newest_of, or_else, owns_of, pick_of, place_on, spread_in}
 use Rattle.nl_device.specs.Spread.{is_alone_in, spare_of}
@@ -163,7 +163,7 @@ module _ (shape : Shape) (needed : List Own) (spreads : List Spread) (are : Tabu
           let passes = find_passes first needed o other in
           not_all_there none o (find_in first o needed other) (eqb-true o.vaddr v (and_parts (o.vaddr == v) true passes).0) (ap (λ n. n / shape.pages) same ∙ here)
 
-pub seen_keeps : (shape : Shape) (t : Table) (vseg : Segment) (block : ℕ) → IsOpenedVirtual shape t vseg → virtual_spare_seen shape t.seen ≡ Some block → KeepsSpare vseg
+pub seen_keeps : (shape : Shape) (t : ScanTable) (vseg : Segment) (block : ℕ) → IsOpenedVirtual shape t vseg → virtual_spare_seen shape t.seen ≡ Some block → SegmentHasUnmapped vseg
 unfolding spare_of
 seen_keeps shape t vseg block o spare =
     let found : spare_of 0 shape.vblocks o.spreads ≡ Some block = spare_seen shape t.seen o.spreads o.are_spreads ∙ spare in

@@ -8,9 +8,9 @@ use Rattle.nl_field.specs.Page.{Image}
 use Rattle.nl_field.specs.Medium.{Readable, virtual_pages, shape_of_image, first_physical, address_on, stamp_on}
 use Rattle.nl_field.specs.Space.{has_greatest_stamp, virtual_spare, is_outside}
 use Rattle.nl_field.specs.Virtual.{or_first_in, newest}
-use Rattle.nl_iface.specs.Stored.{Value, Shows as StoresMap, stored_in, value_on}
+use Rattle.nl_iface.specs.Stored.{Value, ShowsMap as StoresMap, stored_in, value_on}
 use Rattle.nl_vseg.specs.Maps.{Dominated}
-use Rattle.nl_vseg.specs.Pages.{Shows}
+use Rattle.nl_vseg.specs.Pages.{PageShows}
 use Rattle.nl_vseg.proofs.Members.{In, filter_to, filter_from, any_from, any_to, find_in}
 use Rattle.nl_vseg.proofs.Newest.{from_pages, to_pages}
 
@@ -132,8 +132,8 @@ module _ (image : Image) (v : ℕ) where
 -- Where the image shows each value of the map, and what else it shows is older or one of those that failed, it stores the map's
 -- values, or those.
 module _ (image : Image) (map : ℕ → Option Value) (failed : ℕ → Value → Type 0)
-    (there : (v s : ℕ) (main : List ℕ) → map v ≡ Some (s, main) → Shows (first_physical (shape_of_image image)) image v s main)
-    (each : (v t : ℕ) (n : List ℕ) → Shows (first_physical (shape_of_image image)) image v t n → Dominated (map v) t n ⊎ failed v (t, n)) where
+    (there : (v s : ℕ) (main : List ℕ) → map v ≡ Some (s, main) → PageShows (first_physical (shape_of_image image)) image v s main)
+    (each : (v t : ℕ) (n : List ℕ) → PageShows (first_physical (shape_of_image image)) image v t n → Dominated (map v) t n ⊎ failed v (t, n)) where
   at_value : (v : ℕ) → v < (shape_of_image image).vaddrs → (o : Option Readable) → newest image v ≡ o → (x : Option Value) → map v ≡ x → (option_map value_on o ≡ x) ⊎ ((y : Value) × (option_map value_on o ≡ Some y) × failed v y)
   at_value v below None picked None value = inl refl
   at_value v below None picked (Some x) value =
@@ -142,12 +142,12 @@ module _ (image : Image) (map : ℕ → Option Value) (failed : ℕ → Value �
   at_value v below (Some r) picked None value =
       let g = newest_some image v r picked in
       let f = from_pages image r g.there in
-      let shown = subst (λ u. Shows (first_physical (shape_of_image image)) image u (stamp_on r) r.main) g.at f.1 in
+      let shown = subst (λ u. PageShows (first_physical (shape_of_image image)) image u (stamp_on r) r.main) g.at f.1 in
       ⊎_elim (λ d. absurd (subst (λ o. Dominated o (stamp_on r) r.main) value d)) (λ fails. inr (value_on r, refl, fails)) (each v (stamp_on r) r.main shown)
   at_value v below (Some r) picked (Some x) value =
       let g = newest_some image v r picked in
       let f = from_pages image r g.there in
-      let shown = subst (λ u. Shows (first_physical (shape_of_image image)) image u (stamp_on r) r.main) g.at f.1 in
+      let shown = subst (λ u. PageShows (first_physical (shape_of_image image)) image u (stamp_on r) r.main) g.at f.1 in
       let q = to_pages image v x.0 x.1 below (there v x.0 x.1 value) in
       let most = g.most q.0 q.1 q.2 in
       let stamp = q.3 in

@@ -2,10 +2,10 @@
 use Rattle.std.proofs.Common.{◌≡◌, ◌⊎◌, inl, inr, ⊎_elim, ℕ, ◌+◌, ◌-◌, ◌*◌, ◌<◌, ◌≤◌, Bool, true, false, cond, List, Option, is_some, length, refl, ◌∙◌, ap, arith, mul-le-mul_right, add-mul}
 use Rattle.std.proofs.lemmas.Bool.{cases_Bool}
 use Rattle.nl_iface.specs.Moves.{TakesVictim}
-use Rattle.nl_iface.specs.Space.{Begun, Copied, Erased, Freed, IsSpace, Lessened, NamesGone, SameSegment, Space, Wasted}
-use Rattle.nl_pseg.specs.Cleaning.{Begins, Erases, Moves, MovesNone}
-use Rattle.nl_pseg.specs.Segment.{Physical, SamePages}
-use Rattle.nl_pseg.specs.Space.{GivesBack, IsWhole, Lessens, dead_in, landing, left_of, live_in, reach, victims, waiting}
+use Rattle.nl_iface.specs.Space.{VictimBegun, Copied, Erased, Freed, IsSpace, Lessened, NamesGone, SameSegment, Space, Wasted}
+use Rattle.nl_pseg.specs.Cleaning.{BeginsBlock, ErasesBlock, MovesLivePage, MovesNone}
+use Rattle.nl_pseg.specs.Segment.{Physical, SameBlocksAndPages}
+use Rattle.nl_pseg.specs.Space.{GivesBackBlocks, IsWhole, Lessens, dead_in, landing, left_in_victim, live_in, reach, victims, waiting}
 use Rattle.nl_pseg.specs.declared.held.Held.{Held}
 use Rattle.nl_device.specs.Space.{space_of}
 
@@ -18,7 +18,7 @@ small true = omega arith
 small false = omega arith
 
 -- a block of pages is within reach
-low : (seg : Physical) → IsWhole seg → KeepsSome seg → left_of seg ≤ landing seg → seg.size ≤ reach seg
+low : (seg : Physical) → IsWhole seg → KeepsSome seg → left_in_victim seg ≤ landing seg → seg.size ≤ reach seg
 low seg whole some lands = ⊎_elim
     (λ (hand : is_some seg.victim ≡ true).
     let one : victims seg ≡ 1 = ap (λ b. cond b 1 0) hand in
@@ -71,7 +71,7 @@ unfolding space_of
 same_segment old new first blocks size = record { block = size; all = λ i. (blocks i - first i) * size i; bad = omega arith; kept = refl }
 
 -- a block became the victim
-pub begun : (block : ℕ) (old new : Physical) → Begins block old new → Begun (space_of old) (space_of new)
+pub begun : (block : ℕ) (old new : Physical) → BeginsBlock block old new → VictimBegun (space_of old) (space_of new)
 unfolding space_of
 begun block old new b =
     let size = b.tables.same_size in
@@ -88,12 +88,12 @@ begun block old new b =
     }
 
 -- a victim that was chosen for its dead pages has fewer live pages than it has pages
-pub begun_gains : (block : ℕ) (old new : Physical) → Begins block old new → 0 < dead_in old block → (space_of new).left + 1 ≤ (space_of new).block
+pub begun_gains : (block : ℕ) (old new : Physical) → BeginsBlock block old new → 0 < dead_in old block → (space_of new).left + 1 ≤ (space_of new).block
 unfolding space_of
 begun_gains block old new b some = let l = b.left in let size = b.tables.same_size in omega (arith, l, some, size)
 
 -- a live page of the victim was moved
-pub copied : (before after : ℕ) (h : Held) (old new : Physical) → Moves before after h old new → live_in new.held ≡ live_in old.held → Copied (space_of old) (space_of new)
+pub copied : (before after : ℕ) (h : Held) (old new : Physical) → MovesLivePage before after h old new → live_in new.held ≡ live_in old.held → Copied (space_of old) (space_of new)
 unfolding space_of
 copied before after h old new m live = record {
   same = same_segment old new m.same_first m.same_blocks m.same_size;
@@ -140,7 +140,7 @@ not_moved s m t (inl same) k pairs = let e = ap (λ (x : Space). x.pairs) same.1
 not_moved s m t (inr begun) k pairs = let e = begun.0.others.2 in let more = k.pairs in omega (arith, e, more, pairs)
 
 -- the victim was erased: its block is Free, or it waits
-pub erased : (block : ℕ) (old new : Physical) → Erases block old new
+pub erased : (block : ℕ) (old new : Physical) → ErasesBlock block old new
     → ((new.free ≡ old.free + 1) × (waiting new ≡ waiting old)) ⊎ ((new.free ≡ old.free) × (waiting new ≡ waiting old + 1)) → Erased (space_of old) (space_of new)
 unfolding space_of
 erased block old new e one = record {
@@ -169,7 +169,7 @@ lessened gone old new fewer l = record {
 }
 
 -- a name is gone
-pub name_gone : (old new : Physical) → SamePages old new → new.held ≡ old.held → length new.pairs ≤ length old.pairs → Lessens 0 old new → GivesBack old new → reach new ≡ reach old → NamesGone (space_of old) (space_of new)
+pub name_gone : (old new : Physical) → SameBlocksAndPages old new → new.held ≡ old.held → length new.pairs ≤ length old.pairs → Lessens 0 old new → GivesBackBlocks old new → reach new ≡ reach old → NamesGone (space_of old) (space_of new)
 unfolding space_of
 name_gone old new same held fewer l back reaches = record {
   same = same_segment old new same.same_first same.same_blocks same.same_size;
@@ -182,7 +182,7 @@ name_gone old new same held fewer l back reaches = record {
 }
 
 -- a page is live no longer
-pub page_gone : (old new : Physical) → SamePages old new → live_in new.held + 1 ≡ live_in old.held → length new.pairs ≤ length old.pairs → Lessens 1 old new → GivesBack old new → Freed (space_of old) (space_of new)
+pub page_gone : (old new : Physical) → SameBlocksAndPages old new → live_in new.held + 1 ≡ live_in old.held → length new.pairs ≤ length old.pairs → Lessens 1 old new → GivesBackBlocks old new → Freed (space_of old) (space_of new)
 unfolding space_of
 page_gone old new same live fewer l back = record {
   same = same_segment old new same.same_first same.same_blocks same.same_size;

@@ -2,10 +2,10 @@
 use Rattle.std.proofs.Common.{◌≡◌, ◌⊎◌, ⊎_elim, ℕ, ◌+◌, ◌-◌, ◌*◌, ◌<◌, ◌≤◌, cond, List, Option, Some, None, is_some, length, get_or, set, refl, sym, ◌∙◌, ap, subst, arith}
 use Rattle.std.proofs.lemmas.List.{get_or-set_other, length-set}
 use Rattle.std.proofs.lemmas.List.Sums.{sum_by-set}
-use Rattle.nl_iface.specs.Space.{Freed, IsSpace, NoneRetired, SameSegment, WriteFailed, Wrote, NamesGone}
-use Rattle.nl_pseg.specs.Segment.{IsSpent, IsUnspent, Physical, SamePages, room}
+use Rattle.nl_iface.specs.Space.{Freed, IsSpace, NoneRetired, SameSegment, FailsToWrite, Wrote, NamesGone}
+use Rattle.nl_pseg.specs.Segment.{IsSpent, IsUnspent, Physical, SameBlocksAndPages, room}
 use Rattle.nl_pseg.specs.declared.held.Held.{Held}
-use Rattle.nl_pseg.specs.Space.{GivesBack, HasRoomForVictim, Lessens, SameCleaning, waiting}
+use Rattle.nl_pseg.specs.Space.{GivesBackBlocks, HasRoomForVictim, Lessens, SameCleaning, waiting}
 use Rattle.nl_device.specs.Device.{HasSpareBlock}
 use Rattle.nl_device.specs.Space.{live_in, space_of}
 use Rattle.nl_device.proofs.SpaceSteps.{is_space, lessened, page_gone, same_segment}
@@ -30,7 +30,7 @@ one_less held p h below live =
     let z : weight (get_or held p None) ≡ 1 = ap weight live in
     omega (arith, e, z)
 
-same_pages : (old new : Physical) → SamePages old new → SameSegment (space_of old) (space_of new)
+same_pages : (old new : Physical) → SameBlocksAndPages old new → SameSegment (space_of old) (space_of new)
 same_pages old new same = same_segment old new same.same_first same.same_blocks same.same_size
 
 no_more : (xs ys : List (ℕ × ℕ)) → ys ≡ xs → length ys ≤ length xs
@@ -47,7 +47,7 @@ still_lessens old new same lands = record {
   lands = lands;
 }
 
-pub wrote : (old new : Physical) → SamePages old new → Lessens 0 old new → waiting new ≡ waiting old → IsSpent old new → live_in new.held + 0 ≡ live_in old.held + 1 → new.pairs ≡ old.pairs → Wrote 0 (space_of old) (space_of new)
+pub wrote : (old new : Physical) → SameBlocksAndPages old new → Lessens 0 old new → waiting new ≡ waiting old → IsSpent old new → live_in new.held + 0 ≡ live_in old.held + 1 → new.pairs ≡ old.pairs → Wrote 0 (space_of old) (space_of new)
 unfolding space_of
 wrote old new same fewer waits is live pairs = record {
   same = same_pages old new same;
@@ -58,7 +58,7 @@ wrote old new same fewer waits is live pairs = record {
 }
 
 -- a page was placed in place of another one
-pub wrote_over : (old new : Physical) → SamePages old new → Lessens 1 old new → room old ≤ room new + 1 → (waiting old ≡ 0 → IsSpent old new) → live_in new.held + 1 ≡ live_in old.held + 1 → length new.pairs ≤ length old.pairs → Wrote 1 (space_of old) (space_of new)
+pub wrote_over : (old new : Physical) → SameBlocksAndPages old new → Lessens 1 old new → room old ≤ room new + 1 → (waiting old ≡ 0 → IsSpent old new) → live_in new.held + 1 ≡ live_in old.held + 1 → length new.pairs ≤ length old.pairs → Wrote 1 (space_of old) (space_of new)
 unfolding space_of
 wrote_over old new same fewer room spent live pairs = record {
   same = same_pages old new same;
@@ -71,7 +71,7 @@ wrote_over old new same fewer room spent live pairs = record {
       either;
 }
 
-pub write_failed : (old new : Physical) → SamePages old new → SameCleaning old new → (HasRoomForVictim old → HasRoomForVictim new) → IsSpent old new ⊎ IsUnspent old new → new.held ≡ old.held → new.pairs ≡ old.pairs → WriteFailed (space_of old) (space_of new)
+pub write_failed : (old new : Physical) → SameBlocksAndPages old new → SameCleaning old new → (HasRoomForVictim old → HasRoomForVictim new) → IsSpent old new ⊎ IsUnspent old new → new.held ≡ old.held → new.pairs ≡ old.pairs → FailsToWrite (space_of old) (space_of new)
 unfolding space_of
 write_failed old new same cleaning lands spent held pairs = record {
   same = same_pages old new same;
@@ -83,14 +83,14 @@ write_failed old new same cleaning lands spent held pairs = record {
   room_most = λ none. ⊎_elim (λ is. let r = is.room in omega (arith, r)) (λ is. let r = unspent_room old new same is in omega (arith, r)) spent;
 }
   where
-    unspent_room : (old new : Physical) → SamePages old new → IsUnspent old new → room new ≡ room old
+    unspent_room : (old new : Physical) → SameBlocksAndPages old new → IsUnspent old new → room new ≡ room old
     unspent_room old new same is = λ i. is.left i + (is.free i - 1) * same.same_size i
 
-pub freed : (old new : Physical) → SamePages old new → Lessens 1 old new → GivesBack old new → live_in new.held + 1 ≡ live_in old.held → length new.pairs ≤ length old.pairs → Freed (space_of old) (space_of new)
+pub freed : (old new : Physical) → SameBlocksAndPages old new → Lessens 1 old new → GivesBackBlocks old new → live_in new.held + 1 ≡ live_in old.held → length new.pairs ≤ length old.pairs → Freed (space_of old) (space_of new)
 freed old new same fewer back live pairs = page_gone old new same live pairs fewer back
 
 -- one page more is live
-pub wrote_one : (old new : Physical) (at : ℕ) (h : Held) → SamePages old new → SameCleaning old new → (HasRoomForVictim old → HasRoomForVictim new) → IsSpent old new → at < length old.held → get_or old.held at None ≡ None → new.held ≡ set old.held at (Some h) → new.pairs ≡ old.pairs
+pub wrote_one : (old new : Physical) (at : ℕ) (h : Held) → SameBlocksAndPages old new → SameCleaning old new → (HasRoomForVictim old → HasRoomForVictim new) → IsSpent old new → at < length old.held → get_or old.held at None ≡ None → new.held ≡ set old.held at (Some h) → new.pairs ≡ old.pairs
     → Wrote 0 (space_of old) (space_of new)
 wrote_one old new at h same cleaning lands is below dead held pairs =
     let e = ap live_in held in

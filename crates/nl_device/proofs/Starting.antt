@@ -16,7 +16,7 @@ use Rattle.nl_device.proofs.Leaving.{none_in_hand}
 use Rattle.nl_device.proofs.Bounds.{some_pages, two_blocks}
 use Rattle.nl_pseg.specs.Segment.{Physical}
 use Rattle.nl_pseg.specs.declared.held.Held.{Held}
-use Rattle.nl_scan.specs.Tables.{Table, greatest_stamp}
+use Rattle.nl_scan.specs.Tables.{ScanTable, greatest_stamp}
 use Rattle.nl_field.specs.declared.seen.Seen.{Seen}
 use Rattle.nl_vseg.proofs.Members.{In}
 use Rattle.nl_vseg.specs.Places.{place_of, stamp_in_place}
@@ -68,7 +68,7 @@ mapped_some : (o : Option Own) (place : Place) → option_map place_on o ≡ Som
 mapped_some None place is = absurd (none-some place is)
 mapped_some (Some x) place is = (x, refl, same_Some (place_on x) place is)
 
-module _ (shape : Shape) (t : Table) (vseg : Segment) (o : IsOpenedVirtual shape t vseg) where
+module _ (shape : Shape) (t : ScanTable) (vseg : Segment) (o : IsOpenedVirtual shape t vseg) where
   -- the page of the place of an address
   pub place_own : (v : ℕ) (place : Place) → place_of vseg.places v ≡ Some place
       → (x : Own) × (v < shape.vaddrs) × (pick_of shape.pages (spare_of 0 shape.vblocks o.spreads) (needed_of shape t.seen) v ≡ Some x) × (place_on x ≡ place)
@@ -106,7 +106,7 @@ module _ (shape : Shape) (t : Table) (vseg : Segment) (o : IsOpenedVirtual shape
     live = λ q h is. absurd (none-some h (sym (none_at (shape.blocks * shape.pages) q pseg.held p.none_held) ∙ is));
   }
 
-module _ (shape : Shape) (t : Table) (pseg : Physical) (p : IsOpenedPhysical shape t pseg) (roomy : ShapeBounds shape) where
+module _ (shape : Shape) (t : ScanTable) (pseg : Physical) (p : IsOpenedPhysical shape t pseg) (roomy : ShapeBounds shape) where
   pub live_none : HasLive pseg
   live_none = record {
     in_segment = λ q h is. absurd (none-some h (sym (none_at (shape.blocks * shape.pages) q pseg.held p.none_held) ∙ is));
@@ -136,7 +136,7 @@ module _ (shape : Shape) (t : Table) (pseg : Physical) (p : IsOpenedPhysical sha
       omega (arith, left, whole, most, spread)
 
 -- the device of a scan, beside what its medium holds
-pub opened_device : (geometry : Geometry) (shape : Shape) (t : Table) (vseg : Segment) (pseg : Physical) (pending : PendingTable) (kept : KeptPages) (tells : Type 0) (image : Image) → IsTrue (is_legal geometry.blocks geometry.pages) → shape ≡ shape_for geometry.blocks geometry.pages → FitsShape shape t
+pub opened_device : (geometry : Geometry) (shape : Shape) (t : ScanTable) (vseg : Segment) (pseg : Physical) (pending : PendingTable) (kept : KeptPages) (tells : Type 0) (image : Image) → IsTrue (is_legal geometry.blocks geometry.pages) → shape ≡ shape_for geometry.blocks geometry.pages → FitsShape shape t
     → IsOpenedVirtual shape t vseg → IsOpenedPhysical shape t pseg → (HasSegments geometry shape vseg pseg → HasLive pseg → HasSpareBlock pseg → tells → IsOnMedium shape (1 + greatest_stamp t.seen) image vseg pseg)
     → kept ≡ record { first = shape.vblocks; count = shape.pblocks; size = shape.pages; pages = kept_pages (first_physical shape) t.seen }
     → (tells → IsFoundStored kept (λ p. bytes_at (shape.vblocks * shape.pages) image p) (stored_in image))

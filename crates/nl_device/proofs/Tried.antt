@@ -6,11 +6,11 @@ use Rattle.nl_field.specs.declared.pointer.Tag.{Tag}
 use Rattle.nl_field.specs.declared.shape.Shape.{Shape}
 use Rattle.nl_nand.specs.Nand.{ImageOf}
 use Rattle.nl_nand.specs.declared.geometry.Geometry.{Geometry}
-use Rattle.nl_iface.specs.Names.{IsNew}
+use Rattle.nl_iface.specs.Names.{IsNewName}
 use Rattle.nl_iface.specs.Stored.{NamedPage, stored_in}
-use Rattle.nl_pseg.specs.Effects.{Keeps, Places}
+use Rattle.nl_pseg.specs.Effects.{PreservesSegment, PlacesOnImage}
 use Rattle.std.specs.Prelude.{Contains}
-use Rattle.nl_pseg.specs.Segment.{HasSpare, IsDead, IsPhysicalOf, Physical, SamePages, held_at}
+use Rattle.nl_pseg.specs.Segment.{CanSpareBlock, IsDead, IsPhysicalOf, Physical, SameBlocksAndPages, held_at}
 use Rattle.nl_pseg.specs.declared.held.Held.{Held}
 use Rattle.nl_vseg.specs.Segment.{Segment}
 use Rattle.nl_device.specs.Device.{HasLive, HasSegments, HasSpareBlock, IsDevice, IsFoundStored}
@@ -34,7 +34,7 @@ pub next_untried : (tried : Bool) (now next : ℕ) → now ≡ next + cond tried
 next_untried tried now next is un = let e : next + cond tried 1 0 ≡ next + 0 = ap (λ b. next + cond b 1 0) un in omega (arith, is, e)
 
 -- the page of a new name
-pub new_name : {geometry : Geometry} {shape : Shape} {vseg : Segment} {pseg : Physical} → HasSegments geometry shape vseg pseg → (page : ℕ) → IsDead pseg page → IsNew shape (names_of pseg) page
+pub new_name : {geometry : Geometry} {shape : Shape} {vseg : Segment} {pseg : Physical} → HasSegments geometry shape vseg pseg → (page : ℕ) → IsDead pseg page → IsNewName shape (names_of pseg) page
 new_name {geometry} {shape} {vseg} {pseg} segments page dead = record {
   low = subst (λ n. n ≤ page) (begins segments) dead.within.0;
   high = subst (λ n. page < n) (λ i. segments.physical_blocks i * segments.physical_pages i) dead.within.1;
@@ -43,7 +43,7 @@ new_name {geometry} {shape} {vseg} {pseg} segments page dead = record {
 }
 
 module _ {geometry now : Geometry} {tells : Type 0} {image c : Image} {shape : Shape} {vseg : Segment} {old : Physical} {pending : PendingTable} {kept left : KeptPages} {next after : ℕ} (answer : Named) (tried : Bool) (tag : Tag) (main : List ℕ) (f : IsDevice geometry tells image shape vseg old pending kept next)
-    (same_geometry : now ≡ geometry) (old_fits : tells → ImageOf geometry image) (fits : tells → ImageOf now c) (either : tells → (page : ℕ) × (Keeps old image c ⊎ Places old page tag next main image c)) (untouched : is_tried answer ≡ false → c ≡ image)
+    (same_geometry : now ≡ geometry) (old_fits : tells → ImageOf geometry image) (fits : tells → ImageOf now c) (either : tells → (page : ℕ) × (PreservesSegment old image c ⊎ PlacesOnImage old page tag next main image c)) (untouched : is_tried answer ≡ false → c ≡ image)
     (is_left : left ≡ cond tried (forgotten kept) kept) (is_after : after ≡ next + cond tried 1 0) (tried_is : tried ≡ is_tried answer) where
   rises : next ≤ after
   rises = omega (arith, is_after)
@@ -65,7 +65,7 @@ module _ {geometry now : Geometry} {tells : Type 0} {image c : Image} {shape : S
           let k = either t in
           below_after geometry shape vseg old image c f.segments (old_fits t) (subst (λ n. ImageOf n c) same_geometry (fits t)) f.live (f.medium t).physical_is k.0 next after tag main k.1 was (omega (arith, one)) p page is
 
-  pub tried_device : (new : Physical) (now_pending : PendingTable) → SamePages old new → length new.held ≡ length old.held → HasLive new → HasSpareBlock new → AreCalled new now_pending → ((p : ℕ) (h : Held) → held_at new p ≡ Some h → h.stamp < after) → (tells → IsPhysicalOf c new) → (tells → HasSpare image old → HasSpare c new)
+  pub tried_device : (new : Physical) (now_pending : PendingTable) → SameBlocksAndPages old new → length new.held ≡ length old.held → HasLive new → HasSpareBlock new → AreCalled new now_pending → ((p : ℕ) (h : Held) → held_at new p ≡ Some h → h.stamp < after) → (tells → IsPhysicalOf c new) → (tells → CanSpareBlock image old → CanSpareBlock c new)
       → ((n t : ℕ) → Contains new.pairs (n, t) → Contains old.pairs (n, t)) → (New : ℕ → Type 0) → ((p : ℕ) → New p → held_at old p ≡ None) → ((p : ℕ) (h : Held) → held_at new p ≡ Some h → (held_at old p ≡ Some h) ⊎ New p) → IsDevice now tells c shape vseg new now_pending left after
   tried_device new now_pending same count live spare called stamps physical on fewer New fresh less =
       device_with f (found_after kept left tried is_left shape next after rises f.found) stored same_geometry same count live spare called rises stamps

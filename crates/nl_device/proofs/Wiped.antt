@@ -15,8 +15,8 @@ use Rattle.nl_iface.specs.Stored.{NamedPage, stored_in}
 use Rattle.nl_nand.specs.Nand.{ImageOf}
 use Rattle.nl_nand.specs.declared.geometry.Geometry.{Geometry}
 use Rattle.nl_pseg.specs.Cleaning.{KeepsBeside}
-use Rattle.nl_pseg.specs.Segment.{HasSpare, InVictim, IsPhysicalOf, KeepsBlock, Physical, held_at}
-use Rattle.nl_pseg.specs.Space.{IsWhole, left_of, victims}
+use Rattle.nl_pseg.specs.Segment.{CanSpareBlock, InVictim, IsPhysicalOf, KeepsBlock, Physical, held_at}
+use Rattle.nl_pseg.specs.Space.{IsWhole, left_in_victim, victims}
 use Rattle.nl_pseg.specs.declared.held.Held.{Held}
 use Rattle.nl_vseg.specs.Segment.{Segment}
 use Rattle.nl_device.specs.Callbacks.{names_with}
@@ -34,7 +34,7 @@ use Rattle.nl_device.proofs.Living.{same_before, same_keeps}
 use Rattle.nl_device.proofs.Naming.{addresses_same, firm_kept, holds_live, named_none, named_same}
 
 -- when there is nothing to erase
-pub erase_idle : (seg : Physical) {A : Type 0} → A ↔ ((victims seg ≡ 1) × (left_of seg ≡ 0) → ⊥) → A ↔ (((space_of seg).victim ≡ 1) × ((space_of seg).left ≡ 0) → ⊥)
+pub erase_idle : (seg : Physical) {A : Type 0} → A ↔ ((victims seg ≡ 1) × (left_in_victim seg ≡ 0) → ⊥) → A ↔ (((space_of seg).victim ≡ 1) × ((space_of seg).left ≡ 0) → ⊥)
 unfolding space_of
 erase_idle seg is = is
 
@@ -46,17 +46,17 @@ hand_of None one = absurd (omega (arith, one))
 hand_of (Some block) one = (block, refl)
 
 -- where an erase finds something to erase, a victim is in hand that has no live page
-pub erasable : (seg : Physical) → (((victims seg ≡ 1) × (left_of seg ≡ 0) → ⊥) → ⊥) → (block : ℕ) × (seg.victim ≡ Some block) × (left_of seg ≡ 0)
+pub erasable : (seg : Physical) → (((victims seg ≡ 1) × (left_in_victim seg ≡ 0) → ⊥) → ⊥) → (block : ℕ) × (seg.victim ≡ Some block) × (left_in_victim seg ≡ 0)
 erasable seg some = ⊎_elim
     (λ one. ⊎_elim
     (λ none. let hand = hand_of seg.victim one in (hand.0, hand.1, none))
     (λ off. absurd (some (λ both. off both.1)))
-    (cases_eq (left_of seg) 0))
+    (cases_eq (left_in_victim seg) 0))
     (λ off. absurd (some (λ both. off both.0)))
     (cases_eq (victims seg) 1)
 
 -- a victim without a live page can be done without, whatever an image holds of it
-pub victim_spare : (seg : Physical) (image : Image) (block : ℕ) → HasSpareBlock seg → seg.victim ≡ Some block → left_of seg ≡ 0 → HasSpare image seg
+pub victim_spare : (seg : Physical) (image : Image) (block : ℕ) → HasSpareBlock seg → seg.victim ≡ Some block → left_in_victim seg ≡ 0 → CanSpareBlock image seg
 victim_spare seg image block spare named none = record {
   block = block;
   from = (spare.in_hand block named).0;
@@ -72,7 +72,7 @@ names_among (x ∷ xs) n t (zero, lt, is) = inl (ap (λ (p : ℕ × ℕ). p.0) i
 names_among (x ∷ xs) n t (suc i, lt, is) = inr (names_among xs n t (i, omega (arith, lt), is))
 
 module _ {geometry : Geometry} {tells : Type 0} {image : Image} {shape : Shape} {vseg : Segment} {old : Physical} {pending : PendingTable} {kept : KeptPages} {next : ℕ} (f : IsDevice geometry tells image shape vseg old pending kept next) (t : tells) (fits : ImageOf geometry image) (block : ℕ) (named : old.victim ≡ Some block)
-    (none : left_of old ≡ 0) (c : Image) (c_fits : ImageOf geometry c) (keeps : KeepsBeside old block image c) where
+    (none : left_in_victim old ≡ 0) (c : Image) (c_fits : ImageOf geometry c) (keeps : KeepsBeside old block image c) where
   abbrev bytes : ℕ → List ℕ
   bytes p = bytes_at (shape.vblocks * shape.pages) image p
 
@@ -149,8 +149,8 @@ module _ {geometry : Geometry} {tells : Type 0} {image : Image} {shape : Shape} 
 
 -- a device stands then
 pub wiped_device : {geometry now : Geometry} {tells : Type 0} {image c : Image} {shape : Shape} {vseg : Segment} {old : Physical} {pending : PendingTable} {kept : KeptPages} {next : ℕ} → IsDevice geometry tells image shape vseg old pending kept next → now ≡ geometry → (tells → ImageOf geometry image) → (tells → ImageOf now c)
-    → (block : ℕ) → old.victim ≡ Some block → left_of old ≡ 0 → (tells → KeepsBeside old block image c) → (new : Physical) → new.first ≡ old.first → new.blocks ≡ old.blocks → new.size ≡ old.size → new.held ≡ old.held → new.pairs ≡ old.pairs → IsWhole new → KeepsBlock new
-    → ((victim : ℕ) → new.victim ≡ Some victim → (new.first ≤ victim) × (victim < new.blocks)) → (tells → IsPhysicalOf c new) → (tells → HasSpare c new) → IsDevice now tells c shape vseg new pending (forgotten kept) next
+    → (block : ℕ) → old.victim ≡ Some block → left_in_victim old ≡ 0 → (tells → KeepsBeside old block image c) → (new : Physical) → new.first ≡ old.first → new.blocks ≡ old.blocks → new.size ≡ old.size → new.held ≡ old.held → new.pairs ≡ old.pairs → IsWhole new → KeepsBlock new
+    → ((victim : ℕ) → new.victim ≡ Some victim → (new.first ≤ victim) × (victim < new.blocks)) → (tells → IsPhysicalOf c new) → (tells → CanSpareBlock c new) → IsDevice now tells c shape vseg new pending (forgotten kept) next
 wiped_device {geometry} {now} {tells} {image} {c} {shape} {vseg} {old} {pending} {kept} {next} f same_geometry old_fits fits block named none keeps new first blocks size held pairs whole kept_block hand segment on =
     let count : length new.held ≡ length old.held = ap (λ (l : List (Option Held)). length l) held in
     let segments = named_in f.segments same_geometry first blocks size count in

@@ -14,9 +14,9 @@ use Rattle.nl_iface.specs.Counting.{StampRises}
 use Rattle.nl_iface.specs.Left.{LeavesMap}
 use Rattle.nl_iface.specs.Stored.{NoneFailed, Value, failed_beside, is_firm, stored_in, with_value}
 use Rattle.nl_vseg.specs.Cleaning.{LosesUntold}
-use Rattle.nl_vseg.specs.Effects.{Keeps, Takes}
+use Rattle.nl_vseg.specs.Effects.{ImageKeepsMap, GainsValue}
 use Rattle.nl_vseg.specs.Maps.{Dominated}
-use Rattle.nl_vseg.specs.Pages.{Shows}
+use Rattle.nl_vseg.specs.Pages.{PageShows}
 use Rattle.nl_vseg.specs.Places.{stamp_for}
 use Rattle.nl_vseg.specs.declared.place.Place.{Place}
 use Rattle.nl_pseg.specs.Segment.{IsPhysicalOf, Physical}
@@ -35,38 +35,38 @@ pub with_other : (map : ℕ → Option Value) (v : ℕ) (x : Value) (u : ℕ) �
 with_other map v x u ne = cond-false (u == v) (Some x) (map u) (ne_eqb u v ne)
 
 -- what an image shows is the map's value, or older, or stray
-pub each_or : (bound : ℕ) (image : Image) (map : ℕ → Option Value) (v t : ℕ) (n : List ℕ) → Shows bound image v t n → Dominated (map v) t n ⊎ IsStray bound image map v (t, n)
+pub each_or : (bound : ℕ) (image : Image) (map : ℕ → Option Value) (v t : ℕ) (n : List ℕ) → PageShows bound image v t n → Dominated (map v) t n ⊎ IsStray bound image map v (t, n)
 each_or bound image map v t n shows = ⊎_elim (λ d. inl d) (λ fails. inr (record { shown = shows; newer = fails })) (dominated_or (map v) t n)
 
 module _ (pages bound v next : ℕ) (main : List ℕ) (map : ℕ → Option Value) (old c : Image) where
   -- with the new value, where what was shown is older
-  pub with_there : Takes pages bound map v next main old c → (u t : ℕ) (n : List ℕ) → with_value map v (next, main) u ≡ Some (t, n) → Shows bound c u t n
+  pub with_there : GainsValue pages bound map v next main old c → (u t : ℕ) (n : List ℕ) → with_value map v (next, main) u ≡ Some (t, n) → PageShows bound c u t n
   with_there k u t n is = by (cases_eq u v)
     where
-      by : (u ≡ v) ⊎ (u ≡ v → ⊥) → Shows bound c u t n
+      by : (u ≡ v) ⊎ (u ≡ v → ⊥) → PageShows bound c u t n
       by (inl same) =
           let e = same_Some (next, main) (t, n) (sym (with_here map v (next, main) u same) ∙ is) in
-          let P : ℕ × List ℕ → Type 0 = λ x. Shows bound c u x.0 x.1 in
-          subst P e (subst (λ w. Shows bound c w next main) (sym same) (k.new.0, k.new.1, k.new.3))
+          let P : ℕ × List ℕ → Type 0 = λ x. PageShows bound c u x.0 x.1 in
+          subst P e (subst (λ w. PageShows bound c w next main) (sym same) (k.new.0, k.new.1, k.new.3))
       by (inr ne) = let e = k.there u t n (sym (with_other map v (next, main) u ne) ∙ is) in (e.0, e.1, e.3)
 
-  pub takes_each : Takes pages bound map v next main old c → ((u t : ℕ) (n : List ℕ) → Shows bound old u t n → t < next) → (u t : ℕ) (n : List ℕ) → Shows bound c u t n
+  pub takes_each : GainsValue pages bound map v next main old c → ((u t : ℕ) (n : List ℕ) → PageShows bound old u t n → t < next) → (u t : ℕ) (n : List ℕ) → PageShows bound c u t n
       → Dominated (with_value map v (next, main) u) t n ⊎ failed_beside v (λ w x. IsStray bound old map w x) u (t, n)
   takes_each k below u t n shows = by (cases_eq u v) (k.no_more u t n shows)
     where
-      by : (u ≡ v) ⊎ (u ≡ v → ⊥) → Shows bound old u t n ⊎ ((u ≡ v) × (t ≡ next) × (n ≡ main)) → Dominated (with_value map v (next, main) u) t n ⊎ failed_beside v (λ w x. IsStray bound old map w x) u (t, n)
+      by : (u ≡ v) ⊎ (u ≡ v → ⊥) → PageShows bound old u t n ⊎ ((u ≡ v) × (t ≡ next) × (n ≡ main)) → Dominated (with_value map v (next, main) u) t n ⊎ failed_beside v (λ w x. IsStray bound old map w x) u (t, n)
       by (inl same) (inl was) = inl (subst (λ x. Dominated x t n) (sym (with_here map v (next, main) u same)) (inl (below u t n was)))
       by (inl same) (inr new) = inl (subst (λ x. Dominated x t n) (sym (with_here map v (next, main) u same)) (inr (new.1, new.2)))
       by (inr ne) (inl was) = subst (λ x. Dominated x t n ⊎ failed_beside v (λ w y. IsStray bound old map w y) u (t, n)) (sym (with_other map v (next, main) u ne)) (⊎_elim (λ d. inl d) (λ stray. inr (ne, stray)) (each_or bound old map u t n was))
       by (inr ne) (inr new) = absurd (ne new.0)
 
-  pub keeps_each : Keeps pages bound map old c → (u t : ℕ) (n : List ℕ) → Shows bound c u t n → Dominated (map u) t n ⊎ IsStray bound old map u (t, n)
+  pub keeps_each : ImageKeepsMap pages bound map old c → (u t : ℕ) (n : List ℕ) → PageShows bound c u t n → Dominated (map u) t n ⊎ IsStray bound old map u (t, n)
   keeps_each k u t n shows = each_or bound old map u t n (k.no_more u t n shows)
 
-  pub keeps_there : Keeps pages bound map old c → (u t : ℕ) (n : List ℕ) → map u ≡ Some (t, n) → Shows bound c u t n
+  pub keeps_there : ImageKeepsMap pages bound map old c → (u t : ℕ) (n : List ℕ) → map u ≡ Some (t, n) → PageShows bound c u t n
   keeps_there k u t n is = let e = k.there u t n is in (e.0, e.1, e.3)
 
-  pub takes_there : Takes pages bound map v next main old c → (u t : ℕ) (n : List ℕ) → map u ≡ Some (t, n) → Shows bound c u t n
+  pub takes_there : GainsValue pages bound map v next main old c → (u t : ℕ) (n : List ℕ) → map u ≡ Some (t, n) → PageShows bound c u t n
   takes_there k u t n is = let e = k.there u t n is in (e.0, e.1, e.3)
 
 firm_stored : (image : Image) → (stored_in image).firm ≡ is_firm image
@@ -78,10 +78,10 @@ module _ (shape : Shape) (v next : ℕ) (main : List ℕ) (map : ℕ → Option 
   abbrev stray : ℕ → Value → Type 0
   stray u x = IsStray (shape.vblocks * shape.pages) old map u x
 
-  all_dominated : NoneFailed shape.vaddrs stray → (u t : ℕ) (n : List ℕ) → u < shape.vaddrs → Shows (shape.vblocks * shape.pages) old u t n → Dominated (map u) t n
+  all_dominated : NoneFailed shape.vaddrs stray → (u t : ℕ) (n : List ℕ) → u < shape.vaddrs → PageShows (shape.vblocks * shape.pages) old u t n → Dominated (map u) t n
   all_dominated none u t n below shows = ⊎_elim (λ d. d) (λ fails. absurd (none u (t, n) below fails)) (each_or (shape.vblocks * shape.pages) old map u t n shows)
 
-  pub keeps_leaves : Keeps shape.pages (shape.vblocks * shape.pages) map old c → LeavesMap shape.vaddrs map (λ u x. IsStray (shape.vblocks * shape.pages) old map u x) (λ u x. IsStray (shape.vblocks * shape.pages) old map u x) (stored_in old) (stored_in c)
+  pub keeps_leaves : ImageKeepsMap shape.pages (shape.vblocks * shape.pages) map old c → LeavesMap shape.vaddrs map (λ u x. IsStray (shape.vblocks * shape.pages) old map u x) (λ u x. IsStray (shape.vblocks * shape.pages) old map u x) (stored_in old) (stored_in c)
   keeps_leaves k = record {
     shows = stores_map shape c c_is map stray (keeps_there shape.pages (shape.vblocks * shape.pages) v next main map old c k) (keeps_each shape.pages (shape.vblocks * shape.pages) v next main map old c k);
     beyond = beyond_in shape c c_is;
@@ -89,7 +89,7 @@ module _ (shape : Shape) (v next : ℕ) (main : List ℕ) (map : ℕ → Option 
     named = same_from shape old c old_is c_is k.beyond;
   }
 
-  pub takes_leaves : Takes shape.pages (shape.vblocks * shape.pages) map v next main old c → ((u t : ℕ) (n : List ℕ) → Shows (shape.vblocks * shape.pages) old u t n → t < next)
+  pub takes_leaves : GainsValue shape.pages (shape.vblocks * shape.pages) map v next main old c → ((u t : ℕ) (n : List ℕ) → PageShows (shape.vblocks * shape.pages) old u t n → t < next)
       → LeavesMap shape.vaddrs (with_value map v (next, main)) (failed_beside v (λ u x. IsStray (shape.vblocks * shape.pages) old map u x)) (λ u x. IsStray (shape.vblocks * shape.pages) old map u x) (stored_in old) (stored_in c)
   takes_leaves k below = record {
     shows = stores_map shape c c_is (with_value map v (next, main)) (failed_beside v stray) (with_there shape.pages (shape.vblocks * shape.pages) v next main map old c k) (takes_each shape.pages (shape.vblocks * shape.pages) v next main map old c k below);
@@ -102,7 +102,7 @@ pub rose_or : (before now : ℕ) → Rose before now ⊎ (Rose before now → �
 rose_or before now = ⊎_elim (λ lt. inr (λ le. omega (arith, lt, le))) (λ le. inl le) (cases_lt now (saturated (before + 1)))
 
 -- the pages from the bound on are as before
-pub beyond_of : {pages bound v next : ℕ} {main : List ℕ} {map : ℕ → Option Value} {old c : Image} → Keeps pages bound map old c ⊎ Takes pages bound map v next main old c → (p : ℕ) → bound ≤ p → page_at c p ≡ page_at old p
+pub beyond_of : {pages bound v next : ℕ} {main : List ℕ} {map : ℕ → Option Value} {old c : Image} → ImageKeepsMap pages bound map old c ⊎ GainsValue pages bound map v next main old c → (p : ℕ) → bound ≤ p → page_at c p ≡ page_at old p
 beyond_of (inl k) = k.beyond
 beyond_of (inr k) = k.beyond
 
@@ -119,24 +119,24 @@ physical_kept bound seg old c live whole first same is = record {
 
 -- What failed before, or failed now: where nothing was placed, a value that is newer than the map's was newer before, or it is the
 -- value of this write.
-module _ (pages bound v next : ℕ) (main : List ℕ) (map now : ℕ → Option Value) (old c : Image) (below : (u t : ℕ) (n : List ℕ) → Shows bound old u t n → t < next) where
-  pub stray_done : Takes pages bound map v next main old c → ((u : ℕ) → now u ≡ with_value map v (next, main) u) → (u : ℕ) (x : Value) → IsStray bound c now u x → IsStray bound old map u x
+module _ (pages bound v next : ℕ) (main : List ℕ) (map now : ℕ → Option Value) (old c : Image) (below : (u t : ℕ) (n : List ℕ) → PageShows bound old u t n → t < next) where
+  pub stray_done : GainsValue pages bound map v next main old c → ((u : ℕ) → now u ≡ with_value map v (next, main) u) → (u : ℕ) (x : Value) → IsStray bound c now u x → IsStray bound old map u x
   stray_done k is u x stray = ⊎_elim
       (λ d. absurd (stray.newer (subst (λ o. Dominated o x.0 x.1) (sym (is u)) d)))
       (λ was. record { shown = was.1.shown; newer = was.1.newer })
       (takes_each pages bound v next main map old c k below u x.0 x.1 stray.shown)
 
   -- at the address that was written no value is newer
-  pub none_stray : Takes pages bound map v next main old c → ((u : ℕ) → now u ≡ with_value map v (next, main) u) → (x : Value) → IsStray bound c now v x → ⊥
+  pub none_stray : GainsValue pages bound map v next main old c → ((u : ℕ) → now u ≡ with_value map v (next, main) u) → (x : Value) → IsStray bound c now v x → ⊥
   none_stray k is x stray = ⊎_elim
       (λ d. stray.newer (subst (λ o. Dominated o x.0 x.1) (sym (is v)) d))
       (λ was. was.0 refl)
       (takes_each pages bound v next main map old c k below v x.0 x.1 stray.shown)
 
-  pub stray_kept : Keeps pages bound map old c → ((u : ℕ) → now u ≡ map u) → (u : ℕ) (x : Value) → IsStray bound c now u x → IsStray bound old map u x
+  pub stray_kept : ImageKeepsMap pages bound map old c → ((u : ℕ) → now u ≡ map u) → (u : ℕ) (x : Value) → IsStray bound c now u x → IsStray bound old map u x
   stray_kept k is u x stray = record { shown = k.no_more u x.0 x.1 stray.shown; newer = λ d. stray.newer (subst (λ o. Dominated o x.0 x.1) (sym (is u)) d) }
 
-  pub stray_failed : Takes pages bound map v next main old c → ((u : ℕ) → now u ≡ map u) → (u : ℕ) (x : Value) → IsStray bound c now u x → IsStray bound old map u x ⊎ ((u ≡ v) × (x ≡ (next, main)))
+  pub stray_failed : GainsValue pages bound map v next main old c → ((u : ℕ) → now u ≡ map u) → (u : ℕ) (x : Value) → IsStray bound c now u x → IsStray bound old map u x ⊎ ((u ≡ v) × (x ≡ (next, main)))
   stray_failed k is u x stray = ⊎_elim
       (λ was. inl (record { shown = was; newer = λ d. stray.newer (subst (λ o. Dominated o x.0 x.1) (sym (is u)) d) }))
       (λ new. inr (new.0, λ i. (new.1 i, new.2 i)))
@@ -198,11 +198,11 @@ stamps_done v next now old new is below more u t has =
     stamp_at (u == v) next (old u) t now (sym (is u) ∙ has) (λ h. let lt = below u t h in omega (arith, lt, more)) (omega (arith, more))
 
 -- what is shown stays below it
-pub keeps_below : {pages bound : ℕ} {map : ℕ → Option Value} {old c : Image} (next now : ℕ) → Keeps pages bound map old c → ((u t : ℕ) (n : List ℕ) → Shows bound old u t n → t < next) → next ≤ now → (u t : ℕ) (n : List ℕ) → Shows bound c u t n → t < now
+pub keeps_below : {pages bound : ℕ} {map : ℕ → Option Value} {old c : Image} (next now : ℕ) → ImageKeepsMap pages bound map old c → ((u t : ℕ) (n : List ℕ) → PageShows bound old u t n → t < next) → next ≤ now → (u t : ℕ) (n : List ℕ) → PageShows bound c u t n → t < now
 keeps_below next now k below le u t n shows = let lt = below u t n (k.no_more u t n shows) in omega (arith, lt, le)
 
-pub takes_below : {pages bound v : ℕ} {main : List ℕ} {map : ℕ → Option Value} {old c : Image} (next now : ℕ) → Takes pages bound map v next main old c → ((u t : ℕ) (n : List ℕ) → Shows bound old u t n → t < next) → now ≡ next + 1
-    → (u t : ℕ) (n : List ℕ) → Shows bound c u t n → t < now
+pub takes_below : {pages bound v : ℕ} {main : List ℕ} {map : ℕ → Option Value} {old c : Image} (next now : ℕ) → GainsValue pages bound map v next main old c → ((u t : ℕ) (n : List ℕ) → PageShows bound old u t n → t < next) → now ≡ next + 1
+    → (u t : ℕ) (n : List ℕ) → PageShows bound c u t n → t < now
 takes_below next now k below more u t n shows = ⊎_elim
     (λ was. let lt = below u t n was in omega (arith, lt, more))
     (λ new. let e = new.1 in omega (arith, e, more))

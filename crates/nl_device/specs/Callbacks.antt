@@ -1,6 +1,6 @@
 -- What a device shows of its pending callbacks.
 use Rattle.std.specs.Prelude.{◌≡◌, ℕ, ◌+◌, ◌*◌, ◌==◌, Bool, not, if◌then◌else◌, List, [], ◌∷◌, length, map, Option, Some, None, Contains}
-use Rattle.nl_callbacks.specs.Pending.{IsTable, PendingTable}
+use Rattle.nl_callbacks.specs.Pending.{ArePendingEntries, PendingTable}
 use Rattle.nl_callbacks.specs.declared.entry.Entry.{Entry}
 use Rattle.nl_field.specs.Live.{resolve}
 use Rattle.nl_iface.specs.Names.{Has, Names}
@@ -10,7 +10,7 @@ use Rattle.nl_field.specs.Page.{Image}
 use Rattle.nl_iface.specs.Space.{NamesGone}
 use Rattle.nl_device.specs.Space.{space_of}
 use Rattle.nl_pseg.specs.Space.{IsWhole}
-use Rattle.nl_pseg.specs.Segment.{HasSpare, IsClean, IsOldName, IsPhysicalOf, KeepsBlock, Physical, SamePages, held_at}
+use Rattle.nl_pseg.specs.Segment.{CanSpareBlock, IsClean, IsOldName, IsPhysicalOf, KeepsBlock, Physical, SameBlocksAndPages, held_at}
 use Rattle.nl_pseg.specs.declared.held.Held.{Held}
 
 abbrev pub callbacks_of : List Entry → List Callback
@@ -27,25 +27,25 @@ names_with pseg table =
     record (names_of pseg) { pending = callbacks_of table.callbacks; handled = handled_in table.callbacks; posted = table.posted }
 
 -- of these callbacks one has this number, and no transaction handled it
-abbrev pub IsUnhandled : List Callback → (ℕ → Option ℕ) → ℕ → Type 0
-IsUnhandled pending handled n = (c : Callback) × Has pending c × (c.number ≡ n) × (handled n ≡ None)
+abbrev pub HasUnhandled : List Callback → (ℕ → Option ℕ) → ℕ → Type 0
+HasUnhandled pending handled n = (c : Callback) × Has pending c × (c.number ≡ n) × (handled n ≡ None)
 
 -- what a callback tells of its page
-abbrev pub held_by : Callback → Option Held
-held_by c = Some (record { tag = c.tag; stamp = c.stamp })
+abbrev pub held_of_callback : Callback → Option Held
+held_of_callback c = Some (record { tag = c.tag; stamp = c.stamp })
 
 -- no two of these callbacks have the same old name
-abbrev pub NamesDiffer : List Entry → Type 0
-NamesDiffer es = (c d : Callback) → Has (callbacks_of es) c → Has (callbacks_of es) d → c.before ≡ d.before → c ≡ d
+abbrev pub CallbackNamesDiffer : List Entry → Type 0
+CallbackNamesDiffer es = (c d : Callback) → Has (callbacks_of es) c → Has (callbacks_of es) d → c.before ≡ d.before → c ≡ d
 
 -- Old names and pending callbacks are one to one. The old name of a callback leads to the page that it tells of, which is live
 -- under its tag and stamp. Their numbers rise and were given, and there is room for four for each page of a block.
 pub record AreCalled (pseg : Physical) (t : PendingTable) : Type 0 where
-  pub numbers : IsTable t.callbacks t.posted
-  pub told : (c : Callback) → Has (callbacks_of t.callbacks) c → held_at pseg (resolve pseg.pairs c.before) ≡ held_by c
+  pub numbers : ArePendingEntries t.callbacks t.posted
+  pub told : (c : Callback) → Has (callbacks_of t.callbacks) c → held_at pseg (resolve pseg.pairs c.before) ≡ held_of_callback c
   pub old : (c : Callback) → Has (callbacks_of t.callbacks) c → IsOldName pseg c.before
   pub each : (name : ℕ) → IsOldName pseg name → (c : Callback) × Has (callbacks_of t.callbacks) c × (c.before ≡ name)
-  pub once : NamesDiffer t.callbacks
+  pub once : CallbackNamesDiffer t.callbacks
   pub room : length t.callbacks + t.room ≡ 4 * pseg.size
 
 -- the old name of the callback leads to another page
@@ -57,12 +57,12 @@ is_led pairs e = not (resolve pairs e.callback.before == e.callback.before)
 pub record DropsNames (before now : Physical) (t : PendingTable) : Type 0 where
   pub whole : IsWhole now
   pub called : AreCalled now t
-  pub same : SamePages before now
+  pub same : SameBlocksAndPages before now
   pub held : now.held ≡ before.held
   pub fewer : (name target : ℕ) → Contains now.pairs (name, target) → Contains before.pairs (name, target)
   pub victim : now.victim ≡ before.victim
   pub space : NamesGone (space_of before) (space_of now)
   pub segment : (image : Image) → IsPhysicalOf image before → IsPhysicalOf image now
-  pub spare : (image : Image) → HasSpare image before → HasSpare image now
+  pub spare : (image : Image) → CanSpareBlock image before → CanSpareBlock image now
   pub block : KeepsBlock before → KeepsBlock now
   pub clean : IsClean before → IsClean now

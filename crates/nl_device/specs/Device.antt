@@ -6,17 +6,17 @@ use Rattle.nl_field.specs.declared.shape.Shape.{Shape}
 use Rattle.nl_iface.specs.Device.{IsVolumeShape}
 use Rattle.nl_iface.specs.Left.{HoldsLive, LeavesPages}
 use Rattle.nl_iface.specs.Names.{IsNames}
-use Rattle.nl_iface.specs.Stored.{NamedPage, NoneBeyond, Shows as StoresMap, Stored, stored_in}
+use Rattle.nl_iface.specs.Stored.{NamedPage, NothingStoredBeyond, ShowsMap as StoresMap, Stored, stored_in}
 use Rattle.nl_device.specs.Callbacks.{AreCalled}
 use Rattle.nl_device.specs.Kept.{KeptPages}
 use Rattle.nl_device.specs.Shown.{IsStray, bytes_at, found_in, names_of}
 use Rattle.nl_nand.specs.declared.geometry.Geometry.{Geometry}
-use Rattle.nl_pseg.specs.Segment.{HasSpare, InSegment, IsPhysicalOf, KeepsBlock, Physical, TakenAsErased, held_at}
+use Rattle.nl_pseg.specs.Segment.{CanSpareBlock, InSegment, IsPhysicalOf, KeepsBlock, Physical, TakenAsErased, held_at}
 use Rattle.nl_pseg.specs.Space.{IsWhole}
 use Rattle.nl_pseg.specs.declared.held.Held.{Held}
-use Rattle.nl_vseg.specs.Pages.{Shows}
+use Rattle.nl_vseg.specs.Pages.{PageShows}
 use Rattle.nl_vseg.specs.Places.{AreBelow, map_of, stamp_for}
-use Rattle.nl_vseg.specs.Segment.{IsSegmentOf, Segment, is_blank}
+use Rattle.nl_vseg.specs.Segment.{IsSegmentOf, Segment, is_taken_as_erased}
 use Rattle.nl_callbacks.specs.Pending.{PendingTable}
 
 -- The numbers of the volume are those of the medium, and the two segments are its first and its last blocks.
@@ -39,7 +39,7 @@ pub record HasSegments (geometry : Geometry) (shape : Shape) (vseg : Segment) (p
 -- Pages of the map, and pages that are taken as erased, lie in the segment.
 pub record HasMapped (vseg : Segment) : Type 0 where
   pub places_in : AreBelow vseg.bound vseg.places
-  pub blank_in : (p : ℕ) → is_blank vseg p ≡ true → p < vseg.bound
+  pub blank_in : (p : ℕ) → is_taken_as_erased vseg p ≡ true → p < vseg.bound
 
 -- Live pages, and pages that are taken as erased, lie in the segment, and no two live pages share a stamp.
 pub record HasLive (pseg : Physical) : Type 0 where
@@ -65,14 +65,14 @@ pub record IsNextStamp (next : ℕ) (vseg : Segment) (pseg : Physical) : Type 0 
 pub record IsOnMedium (shape : Shape) (next : ℕ) (image : Image) (vseg : Segment) (pseg : Physical) : Type 0 where
   pub virtual_is : IsSegmentOf image vseg
   pub physical_is : IsPhysicalOf image pseg
-  pub there : (v s : ℕ) (main : List ℕ) → map_of vseg.places image v ≡ Some (s, main) → Shows (shape.vblocks * shape.pages) image v s main
-  pub below : (v t : ℕ) (n : List ℕ) → Shows (shape.vblocks * shape.pages) image v t n → t < next
+  pub there : (v s : ℕ) (main : List ℕ) → map_of vseg.places image v ≡ Some (s, main) → PageShows (shape.vblocks * shape.pages) image v s main
+  pub below : (v t : ℕ) (n : List ℕ) → PageShows (shape.vblocks * shape.pages) image v t n → t < next
   pub shown : StoresMap shape.vaddrs (λ v. map_of vseg.places image v)
       (λ v x. IsStray (shape.vblocks * shape.pages) image (λ u. map_of vseg.places image u) v x) (stored_in image)
   pub holds : HoldsLive (names_of pseg).live (λ p. bytes_at (shape.vblocks * shape.pages) image p) (stored_in image)
-  pub beyond : NoneBeyond shape.vaddrs (stored_in image)
+  pub beyond : NothingStoredBeyond shape.vaddrs (stored_in image)
   pub pages : LeavesPages shape (names_of pseg) (λ p. bytes_at (shape.vblocks * shape.pages) image p) (stored_in image)
-  pub spare : HasSpare image pseg
+  pub spare : CanSpareBlock image pseg
   pub named_below : (p : ℕ) (page : NamedPage) → (stored_in image).named p ≡ Some page → page.stamp + 1 ≤ next
 
 -- The pages that the scan found are those of the physical segment, and their stamps are below the next one.

@@ -57,8 +57,8 @@ copies_of size pages stamp =
     option_map (λ k. record { first = k.page; apart = copy_apart size pages stamp k.page }) (find (λ k. k.stamp == stamp) pages)
 
 -- the copies of each stamp are noted
-abbrev pub AreNoted : ℕ → List KeptPage → BTreeMap ℕ Copies → Type 0
-AreNoted size pages copies = (stamp : ℕ) → get nat_cmp copies stamp ≡ copies_of size pages stamp
+abbrev pub CopiesAreNoted : ℕ → List KeptPage → BTreeMap ℕ Copies → Type 0
+CopiesAreNoted size pages copies = (stamp : ℕ) → get nat_cmp copies stamp ≡ copies_of size pages stamp
 
 -- a page of the segment, whose stamp has a spelling
 pub record IsOfSegment (first count size : ℕ) (k : KeptPage) : Type 0 where
@@ -67,16 +67,16 @@ pub record IsOfSegment (first count size : ℕ) (k : KeptPage) : Type 0 where
   pub spelled : IsTrue (is_stamp k.stamp)
 
 -- what holds of what is kept
-pub record IsKept (kept : KeptPages) (copies : BTreeMap ℕ Copies) : Type 0 where
+pub record AreKeptPages (kept : KeptPages) (copies : BTreeMap ℕ Copies) : Type 0 where
   pub some : 0 < kept.size
   pub few : kept.first + kept.count < 2 ^ 32
   pub rising : AllPairs (λ a b. a.page < b.page) kept.pages
   pub within : All (IsOfSegment kept.first kept.count kept.size) kept.pages
-  pub noted : AreNoted kept.size kept.pages copies
+  pub noted : CopiesAreNoted kept.size kept.pages copies
 
 -- of what is kept the copies can be noted
 abbrev pub HasCopies : KeptPages → Type 0
-HasCopies kept = (copies : BTreeMap ℕ Copies) × IsKept kept copies
+HasCopies kept = (copies : BTreeMap ℕ Copies) × AreKeptPages kept copies
 
 -- The least block of the segment each page of which that has one of these stamps has a copy in another block.
 unfoldable pub spare_among : KeptPages → List ℕ → Option ℕ

@@ -14,7 +14,7 @@ use Rattle.nl_device.specs.Device.{IsDevice, IsOnMedium}
 use Rattle.nl_device.specs.Kept.{KeptPages}
 use Rattle.nl_device.specs.Shown.{IsStray, names_of}
 use Rattle.nl_device.specs.Space.{space_of}
-use Rattle.nl_callbacks.specs.Pending.{IsTable, PendingTable}
+use Rattle.nl_callbacks.specs.Pending.{ArePendingEntries, PendingTable}
 use Rattle.nl_device.specs.Callbacks.{names_with}
 use Rattle.nl_device.specs.State.{given_of, marked_of, state_called}
 use Rattle.nl_iface.specs.Left.{LeavesPages}
@@ -42,7 +42,7 @@ pub failed_below : {shape : Shape} {next : ℕ} {image : Image} {vseg : Segment}
 failed_below on v x stray = let lt = on.below v x.0 x.1 stray.shown in omega (arith, lt)
 
 -- the names with their callbacks
-pub names_as : {shape : Shape} {next : ℕ} (pseg : Physical) (table : PendingTable) → IsTable table.callbacks table.posted
+pub names_as : {shape : Shape} {next : ℕ} (pseg : Physical) (table : PendingTable) → ArePendingEntries table.callbacks table.posted
     → IsNames shape next (names_of pseg) → IsNames shape next (names_with pseg table)
 names_as pseg table numbers is = record {
   space = is.space;

@@ -3,6 +3,6 @@ use Rattle.std.specs.Prelude.{ℕ, ◌-◌, ◌/◌, if◌then◌else◌, Bool, 
 use Rattle.nl_device.specs.declared.kept.copies.Copies.{Copies}
 
 -- the marks, from a first block on, with the block of a stamp that has pages there only
-abbrev pub marked : ℕ → ℕ → Option Copies → List Bool → List Bool
-marked first size None marks = marks
-marked first size (Some c) marks = if is_some c.apart then marks else slice_set marks (c.first / size - first) true
+abbrev pub with_lone_block : ℕ → ℕ → Option Copies → List Bool → List Bool
+with_lone_block first size None marks = marks
+with_lone_block first size (Some c) marks = if is_some c.apart then marks else slice_set marks (c.first / size - first) true

@@ -7,7 +7,7 @@ use Rattle.nl_field.specs.SpareRecord.{wear_of}
 use Rattle.nl_field.specs.declared.shape.Shape.{Shape}
 use Rattle.nl_field.specs.declared.spare.SpareRec.{SpareRec}
 use Rattle.nl_field.specs.declared.spare.SpareRec.TheVariants.{Virtual, Physical}
-use Rattle.nl_scan.specs.Tables.{FitsMedium, Table}
+use Rattle.nl_scan.specs.Tables.{FitsMedium, ScanTable}
 use Rattle.nl_field.specs.declared.seen.Seen.{Seen}
 use Rattle.nl_device.specs.Spread.{by_key, spare_of, spread_more}
 use Rattle.nl_device.specs.declared.opening.own.Own.{Own}
@@ -16,7 +16,7 @@ use Rattle.nl_device.specs.declared.opening.spare.Spread.TheVariants.{Nowhere}
 use Rattle.nl_pseg.specs.Segment.{InSegment, IsClean, KeepsBlock, Physical as Segment, IsNextCopy, TakenAsErased, is_free}
 use Rattle.nl_pseg.specs.Space.{IsWhole}
 use Rattle.nl_vseg.specs.Places.{place_of}
-use Rattle.nl_vseg.specs.Segment.{SameSize, Segment as Virtuals, is_blank}
+use Rattle.nl_vseg.specs.Segment.{SameSize, Segment as Virtuals, is_taken_as_erased}
 use Rattle.nl_vseg.specs.declared.place.Place.{Place}
 
 -- so many values, each of them the one for its number
@@ -63,8 +63,8 @@ with_pick size spare None o = if is_outside size spare o.page then Some o else N
 with_pick size spare (Some old) o = Some old
 
 -- what an address has once it was offered each of these pages
-unfoldable pub filled : ℕ → Option ℕ → List Own → Option Own → ℕ → Option Own
-filled size spare needed pick v = by_key (λ (o : Own). o.vaddr) (with_pick size spare) pick v needed
+unfoldable pub with_offers : ℕ → Option ℕ → List Own → Option Own → ℕ → Option Own
+with_offers size spare needed pick v = by_key (λ (o : Own). o.vaddr) (with_pick size spare) pick v needed
 
 abbrev pub first_outside : ℕ → Option ℕ → List Own → ℕ → Option Own
 first_outside size spare needed v = find (λ o. o.vaddr == v && is_outside size spare o.page) needed
@@ -81,7 +81,7 @@ abbrev pub place_on : Own → Place
 place_on o = record { page = o.page; stamp = o.stamp }
 
 -- the page can be that of the address
-pub record CanLoad (bound v : ℕ) (o : Own) : Type 0 where
+pub record CanLoadAddress (bound v : ℕ) (o : Own) : Type 0 where
   pub within : o.page < bound
   pub spelled : IsTrue (is_stamp o.stamp)
 
@@ -90,10 +90,10 @@ pub record IsLoaded (v : ℕ) (pick : Option Own) (old new : Virtuals) : Type 0 
   pub here : place_of new.places v ≡ option_map place_on pick
   pub others : (u : ℕ) → (u ≡ v → ⊥) → place_of new.places u ≡ place_of old.places u
   pub numbers : SameSize old new
-  pub blank : (p : ℕ) → is_blank new p ≡ true → is_blank old p ≡ true
+  pub blank : (p : ℕ) → is_taken_as_erased new p ≡ true → is_taken_as_erased old p ≡ true
 
 -- the scan says of the block that all its pages read as erased
-abbrev pub SaysErased : Table → ℕ → Type 0
+abbrev pub SaysErased : ScanTable → ℕ → Type 0
 SaysErased t block = slice_index_or t.erased block false ≡ true
 
 -- blocks were told not to read as erased, and nothing else changed but wear
@@ -109,7 +109,7 @@ pub record IsSoiled (old new : Segment) : Type 0 where
 
 -- The virtual segment after a scan: the spreads of the newest pages by address tell the spare block, and each address has the
 -- first of its newest pages outside that, else the first. Only pages of blocks that read as erased are taken as erased.
-pub record IsOpenedVirtual (shape : Shape) (t : Table) (vseg : Virtuals) : Type 0 where
+pub record IsOpenedVirtual (shape : Shape) (t : ScanTable) (vseg : Virtuals) : Type 0 where
   pub same_pages : vseg.pages ≡ shape.pages
   pub same_bound : vseg.bound ≡ shape.vblocks * shape.pages
   pub addresses : length vseg.places ≡ shape.vaddrs
@@ -117,11 +117,11 @@ pub record IsOpenedVirtual (shape : Shape) (t : Table) (vseg : Virtuals) : Type 
   pub are_spreads : Tabulates shape.vaddrs Nowhere (spread_in shape.pages (needed_of shape t.seen)) spreads
   pub places : (v : ℕ) → v < shape.vaddrs
       → place_of vseg.places v ≡ option_map place_on (pick_of shape.pages (spare_of 0 shape.vblocks spreads) (needed_of shape t.seen) v)
-  pub blank : (p : ℕ) → is_blank vseg p ≡ true → (p < vseg.bound) × SaysErased t (p / shape.pages)
+  pub blank : (p : ℕ) → is_taken_as_erased vseg p ≡ true → (p < vseg.bound) × SaysErased t (p / shape.pages)
 
 -- The physical segment after a scan: no page is live, each block is Free, and only pages of blocks that read as erased are taken
 -- as erased.
-pub record IsOpenedPhysical (shape : Shape) (t : Table) (pseg : Segment) : Type 0 where
+pub record IsOpenedPhysical (shape : Shape) (t : ScanTable) (pseg : Segment) : Type 0 where
   pub first_is : pseg.first ≡ shape.vblocks
   pub blocks_is : pseg.blocks ≡ shape.blocks
   pub size_is : pseg.size ≡ shape.pages
@@ -138,5 +138,5 @@ pub record IsOpenedPhysical (shape : Shape) (t : Table) (pseg : Segment) : Type 
   pub clean : ((block : ℕ) → shape.vblocks ≤ block → block < shape.blocks → SaysErased t block) → IsClean pseg
 
 -- the tables are of a medium with the numbers of the volume
-abbrev pub FitsShape : Shape → Table → Type 0
+abbrev pub FitsShape : Shape → ScanTable → Type 0
 FitsShape shape t = FitsMedium (record { blocks = shape.blocks; pages = shape.pages }) t

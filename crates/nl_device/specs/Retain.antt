@@ -5,7 +5,7 @@ use Rattle.nl_field.specs.Live.{resolve}
 use Rattle.nl_field.specs.declared.pointer.Pointer.{Pointer}
 use Rattle.nl_field.specs.declared.pointer.Tag.{Tag}
 use Rattle.nl_field.specs.declared.shape.Shape.{Shape}
-use Rattle.nl_callbacks.specs.Pending.{IsTable, PendingTable, new_entry}
+use Rattle.nl_callbacks.specs.Pending.{ArePendingEntries, PendingTable, new_entry}
 use Rattle.nl_pseg.specs.Segment.{CanLead, IsNewStamp, IsOldName, KeepsBlock, KeptAreDead, IsNextCopy, Physical, TakenAsErased, held_at, soiled, is_kept}
 use Rattle.nl_pseg.specs.Space.{IsWhole, waiting}
 use Rattle.nl_pseg.specs.declared.held.Held.{Held}
@@ -14,7 +14,7 @@ use Rattle.nl_iface.specs.declared.counts.Counts.{Ghosts}
 use Rattle.nl_iface.specs.Calls.{KeepsVirtual}
 use Rattle.nl_iface.specs.Names.{Has, Names}
 use Rattle.nl_iface.specs.Space.{CanLand, Space}
-use Rattle.nl_device.specs.Callbacks.{NamesDiffer, callbacks_of, handled_in, held_by}
+use Rattle.nl_device.specs.Callbacks.{CallbackNamesDiffer, callbacks_of, handled_in, held_of_callback}
 use Rattle.nl_device.specs.Posting.{Posts}
 use Rattle.nl_device.specs.declared.device.Device.{Device}
 use Rattle.nl_device.specs.Kept.{KeptPages, has_stamp, place_among, spare_among}
@@ -89,7 +89,7 @@ pub record IsSegmentFor (kept : KeptPages) (seg : Physical) : Type 0 where
   pub size : seg.size ≡ kept.size
 
 -- Each block is kept, and none is written to. No page is live, and there is no pair.
-pub record IsFresh (seg : Physical) : Type 0 where
+pub record IsFreshSegment (seg : Physical) : Type 0 where
   pub each : (block : ℕ) → seg.first ≤ block → block < seg.blocks → is_kept seg block ≡ true
   pub no_live : (page : ℕ) → held_at seg page ≡ None
   pub pages : length seg.held ≡ seg.blocks * seg.size
@@ -98,13 +98,13 @@ pub record IsFresh (seg : Physical) : Type 0 where
   pub none_in_hand : seg.victim ≡ None
 
 -- no callback is pending, and there is room for four for each page of a block
-pub record IsIdle (kept : KeptPages) (t : PendingTable) : Type 0 where
+pub record IsEmptyPending (kept : KeptPages) (t : PendingTable) : Type 0 where
   pub empty : t.callbacks ≡ []
   pub room : t.room ≡ 4 * kept.size
 
 -- the named page does not have the stamp
-abbrev pub is_lost : KeptPages → Pointer → Bool
-is_lost kept p = not (has_stamp kept.pages p.name p.stamp)
+abbrev pub is_stale : KeptPages → Pointer → Bool
+is_stale kept p = not (has_stamp kept.pages p.name p.stamp)
 
 -- the named page has the stamp, or was not found
 abbrev pub owns_name : KeptPages → Pointer → Bool
@@ -117,11 +117,11 @@ pub record CanRetain (kept : KeptPages) (pointers : List Pointer) : Type 0 where
   pub differ : AllPairs (λ p q. p.stamp ≢ q.stamp) pointers
   pub names_differ : AllPairs (λ p q. p.name ≢ q.name) pointers
   pub own : All (λ p. owns_name kept p ≡ true) pointers
-  pub few_lost : length (filter (is_lost kept) pointers) ≤ 3 * kept.size
+  pub few_lost : length (filter (is_stale kept) pointers) ≤ 3 * kept.size
 
 -- One pointer can be loaded: it has a place, which is neither live nor an old name, and its stamp is not live. Where its place is not
 -- its name, there is room for a pair and a callback, and the name is neither live nor an old name.
-pub record CanLoad (kept : KeptPages) (spare : Option ℕ) (p : Pointer) (seg : Physical) (t : PendingTable) : Type 0 where
+pub record CanLoadPointer (kept : KeptPages) (spare : Option ℕ) (p : Pointer) (seg : Physical) (t : PendingTable) : Type 0 where
   pub page : ℕ
   pub place : place_among kept spare p ≡ Some page
   pub dead : held_at seg page ≡ None
@@ -132,7 +132,7 @@ pub record CanLoad (kept : KeptPages) (spare : Option ℕ) (p : Pointer) (seg : 
   pub none_in_hand : seg.victim ≡ None
 
 -- what a pointer leaves that is loaded at a page
-pub record Loads (kept : KeptPages) (page : ℕ) (p : Pointer) (old new : Physical) : Type 0 where
+pub record LoadsPointer (kept : KeptPages) (page : ℕ) (p : Pointer) (old new : Physical) : Type 0 where
   pub live : new.held ≡ slice_set old.held page (held_for kept page p)
   pub leads : resolve new.pairs p.name ≡ page
   pub names : (name : ℕ) → name ≢ p.name → resolve new.pairs name ≡ resolve old.pairs name
@@ -185,13 +185,13 @@ pub record HasLoaded (kept : KeptPages) (pointers : List Pointer) (at : ℕ) (ol
 
 -- Each of the first pointers whose place is not its name has a callback. These were posted in the order of the pointers.
 pub record HasCalled (kept : KeptPages) (pointers : List Pointer) (at : ℕ) (seg : Physical) (old t : PendingTable) : Type 0 where
-  pub numbers : IsTable t.callbacks t.posted
+  pub numbers : ArePendingEntries t.callbacks t.posted
   pub only : (c : Callback) → Has (callbacks_of t.callbacks) c
       → (i : ℕ) × (p : Pointer) × (i < at) × (slice_get pointers i ≡ Some p) × (p.name ≡ c.before)
-      × (retained_at kept pointers p ≢ p.name) × (held_at seg (retained_at kept pointers p) ≡ held_by c)
+      × (retained_at kept pointers p ≢ p.name) × (held_at seg (retained_at kept pointers p) ≡ held_of_callback c)
   pub each : (i : ℕ) (p : Pointer) → i < at → slice_get pointers i ≡ Some p → retained_at kept pointers p ≢ p.name
       → (c : Callback) × Has (callbacks_of t.callbacks) c × (c.before ≡ p.name)
-  pub once : NamesDiffer t.callbacks
+  pub once : CallbackNamesDiffer t.callbacks
   pub unhandled : (n : ℕ) → handled_in t.callbacks n ≡ None
   pub count : length t.callbacks ≡ length (filter (is_moved kept (spare_for kept pointers)) (take at pointers))
   pub room : length t.callbacks + t.room ≡ 4 * kept.size

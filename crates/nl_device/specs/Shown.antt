@@ -10,7 +10,7 @@ use Rattle.nl_pseg.specs.Pages.{main_of}
 use Rattle.nl_pseg.specs.Segment.{Physical, held_at}
 use Rattle.nl_pseg.specs.declared.held.Held.{Held}
 use Rattle.nl_vseg.specs.Maps.{Dominated}
-use Rattle.nl_vseg.specs.Pages.{Shows}
+use Rattle.nl_vseg.specs.Pages.{PageShows}
 
 abbrev pub live_page : Option Held → Option LivePage
 live_page None = None
@@ -30,7 +30,7 @@ names_of pseg =
 
 -- The image shows a value of the address that is neither the map's nor older.
 pub record IsStray (bound : ℕ) (image : Image) (map : ℕ → Option Value) (v : ℕ) (x : Value) : Type 0 where
-  pub shown : Shows bound image v x.0 x.1
+  pub shown : PageShows bound image v x.0 x.1
   pub newer : Dominated (map v) x.0 x.1 → ⊥
 
 -- the main bytes of a page of the physical segment

@@ -3,7 +3,7 @@ use Rattle.std.specs.Prelude.{◌-◌, ◌*◌, length}
 use Rattle.nl_iface.specs.Space.{Space}
 use Rattle.nl_pseg.specs.Segment.{Physical, room}
 pub use Rattle.nl_pseg.specs.Space.{live_in}
-use Rattle.nl_pseg.specs.Space.{dead_pages, landing, left_of, reach, victims, waiting}
+use Rattle.nl_pseg.specs.Space.{dead_pages, landing, left_in_victim, reach, victims, waiting}
 
 -- No block is bad, and one Free block is kept for the cleaner.
 unfoldable pub space_of : Physical → Space
@@ -17,7 +17,7 @@ space_of seg = record {
   waiting = waiting seg;
   pairs = length seg.pairs;
   live = live_in seg.held;
-  left = left_of seg;
+  left = left_in_victim seg;
   landing = landing seg;
   reach = reach seg;
   dead = dead_pages seg;

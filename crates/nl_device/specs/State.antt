@@ -6,9 +6,9 @@ use Rattle.std.proofs.lemmas.Bool.{cases_Bool, cases_eq, cases_lt, cond-true, co
 use Rattle.std.proofs.lemmas.List.Sums.{sum_by-cons}
 use Rattle.std.proofs.lemmas.Option.{none-some, same_Some}
 use Rattle.nl_field.specs.Live.{LiveEntry, resolve}
-use Rattle.nl_callbacks.specs.Pending.{IsTable, PendingTable, entry_at, number_of}
+use Rattle.nl_callbacks.specs.Pending.{ArePendingEntries, PendingTable, entry_at, number_of}
 use Rattle.nl_callbacks.specs.declared.entry.Entry.{Entry}
-use Rattle.nl_iface.specs.Device.{IsDeviceState, IsTold, entry_with, state_of}
+use Rattle.nl_iface.specs.Device.{IsDeviceState, CallbackLeads, entry_with, state_of}
 use Rattle.nl_iface.specs.Names.{Has, LivePage}
 use Rattle.nl_iface.specs.Stored.{Value}
 use Rattle.nl_iface.specs.declared.Callback.{Callback}
@@ -45,7 +45,7 @@ at_has [] c h = absurd h
 at_has (e ∷ es) c (inl is) = (zero, omega arith, is)
 at_has (e ∷ es) c (inr h) = let r = at_has es c h in let lt = r.1 in (suc r.0, omega (arith, lt), r.2)
 
-pub given_of : (es : List Entry) (posted : ℕ) → IsTable es posted → (c : Callback) → Has (callbacks_of es) c
+pub given_of : (es : List Entry) (posted : ℕ) → ArePendingEntries es posted → (c : Callback) → Has (callbacks_of es) c
     → (1 ≤ c.number) × (c.number ≤ posted)
 given_of es posted t c has =
     let r = at_has es c has in
@@ -164,7 +164,7 @@ module _ (pseg : Physical) (t : PendingTable) (bytes : ℕ → List ℕ) (values
   own_page : (p : ℕ) (h : Held) → held_at pseg p ≡ Some h → resolve pseg.pairs p ≡ p
   own_page p h is = to_itself pseg.pairs p (whole.pages.own p h is)
 
-  told_at : (i : ℕ) → i < length t.callbacks → IsTold (state_of (names_with pseg t) bytes values next) (entry_at t.callbacks i).callback
+  told_at : (i : ℕ) → i < length t.callbacks → CallbackLeads (state_of (names_with pseg t) bytes values next) (entry_at t.callbacks i).callback
   told_at i lt =
       let c = (entry_at t.callbacks i).callback in
       let led = resolve pseg.pairs c.before in

@@ -1,7 +1,7 @@
 // Takes pending callbacks away: those that are over, and those of pages that are gone.
 ghost use Rattle.std.specs.Prelude.{◌≡◌, ◌+◌, if◌then◌else◌, length};
-ghost use Rattle.nl_callbacks.specs.Pending.{IsTable, beside_stamp, unacknowledged};
-ghost use Rattle.nl_device.specs.Callbacks.{AreCalled, DropsNames, NamesDiffer};
+ghost use Rattle.nl_callbacks.specs.Pending.{ArePendingEntries, beside_stamp, unacknowledged};
+ghost use Rattle.nl_device.specs.Callbacks.{AreCalled, DropsNames, CallbackNamesDiffer};
 ghost use Rattle.nl_pseg.specs.Space.{IsWhole};
 
 use nl_callbacks::Pending;
@@ -22,9 +22,9 @@ pub fn drop_over(pending: &mut Pending, pseg: &mut PSeg, upto: u64)
 
 /// Where a page is gone, takes away each callback of it, which has its stamp.
 pub fn cancel_gone(pending: &mut Pending, stamp: u64, gone: bool)
-    requires numbers { IsTable pending.old.callbacks pending.old.posted }
-    requires names { NamesDiffer pending.old.callbacks }
-    ensures numbers { IsTable pending.new.callbacks pending.new.posted }
+    requires numbers { ArePendingEntries pending.old.callbacks pending.old.posted }
+    requires names { CallbackNamesDiffer pending.old.callbacks }
+    ensures numbers { ArePendingEntries pending.new.callbacks pending.new.posted }
     ensures callbacks { pending.new.callbacks ≡ if gone then beside_stamp pending.old.callbacks stamp else pending.old.callbacks }
     ensures posted { pending.new.posted ≡ pending.old.posted }
     ensures room { length pending.new.callbacks + pending.new.room ≡ length pending.old.callbacks + pending.old.room }

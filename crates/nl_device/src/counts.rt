@@ -7,7 +7,7 @@ ghost use Rattle.nl_field.specs.Page.{Image};
 ghost use Rattle.nl_iface.specs.Stored.{stored_in};
 ghost use Rattle.nl_pseg.specs.Segment.{IsClean};
 ghost use Rattle.nl_vseg.specs.Places.{map_of, stamp_for};
-ghost use Rattle.nl_vseg.specs.Segment.{KeepsSpare};
+ghost use Rattle.nl_vseg.specs.Segment.{SegmentHasUnmapped};
 
 use crate::device::Device;
 use nl_iface::Counts;
@@ -41,7 +41,7 @@ impl<M: Nand> Counts for Device<M> {
     ghost failed = { λ d v x. IsStray (d.shape.vblocks * d.shape.pages) (M.contents d.media)
         (λ u. map_of d.vseg.places (M.contents d.media) u) v x };
 
-    ghost keeps_spare = { λ d. KeepsSpare d.vseg };
+    ghost keeps_spare = { λ d. SegmentHasUnmapped d.vseg };
 
     ghost next_stamp = { λ d. d.next };
 

@@ -34,14 +34,14 @@ pub(crate) struct Kept {
 }
 
 impl Model for Kept {
-    ghost use Rattle.nl_device.specs.Kept.{KeptPages, IsKept};
+    ghost use Rattle.nl_device.specs.Kept.{KeptPages, AreKeptPages};
     ghost use Rattle.std.specs.Prelude.{length};
 
     ghost Value = { KeptPages };
 
     ghost view = { λ k. record { first = k.first; count = length k.alone.items; size = k.size; pages = k.pages.items } };
 
-    ghost invariant = { λ k. IsKept (record {
+    ghost invariant = { λ k. AreKeptPages (record {
       first = k.first;
       count = length k.alone.items;
       size = k.size;

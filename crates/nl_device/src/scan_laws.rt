@@ -12,7 +12,7 @@ ghost use Rattle.nl_iface.specs.Moves.{Retains};
 ghost use Rattle.nl_iface.specs.Names.{LivePage, Names};
 ghost use Rattle.nl_device.specs.Kept.{kept_of_scan, place_among, spare_among};
 ghost use Rattle.nl_device.specs.Reopened.{AreTagged, CanBeRetained, only_running};
-ghost use Rattle.nl_device.specs.Retain.{CanRetain, is_lost, owns_name};
+ghost use Rattle.nl_device.specs.Retain.{CanRetain, is_stale, owns_name};
 
 /// The spare block that a device picks for its pointers, and the place of each, are those that the list of its scan tells. So is
 /// which pointers are lost, and which own their names.
@@ -22,7 +22,7 @@ pub fn places_of_a_scan()
     ensures place { (shape : ShapeOf) (seen : List SeenOf) (spare : Option ℕ) (p : PointerOf)
         → place_among (kept_of_scan shape seen) spare p ≡ place_seen shape seen spare p }
     ensures lost { (shape : ShapeOf) (seen : List SeenOf) (p : PointerOf)
-        → is_lost (kept_of_scan shape seen) p ≡ is_lost_seen shape seen p }
+        → is_stale (kept_of_scan shape seen) p ≡ is_lost_seen shape seen p }
     ensures owns { (shape : ShapeOf) (seen : List SeenOf) (p : PointerOf) → owns_name (kept_of_scan shape seen) p ≡ owns_seen shape seen p }
 {}
 

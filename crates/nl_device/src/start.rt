@@ -5,13 +5,13 @@ ghost use Rattle.nl_field.specs.CrashStates.{Rose};
 ghost use Rattle.nl_field.specs.Numbers.{is_legal, shape_for};
 ghost use Rattle.nl_field.specs.Virtual.{newest};
 ghost use Rattle.nl_iface.specs.Stored.{Value, value_on};
-ghost use Rattle.nl_nand.specs.Nand.{OnlyReads};
+ghost use Rattle.nl_nand.specs.Nand.{MediumOnlyRead};
 ghost use Rattle.nl_scan.specs.Tables.{FitsMedium, IsTableOf, greatest_stamp};
 ghost use Rattle.nl_device.specs.Kept.{kept_of_scan};
 ghost use Rattle.nl_device.specs.Medium.{medium_of};
 ghost use Rattle.nl_device.specs.Opening.{FitsShape, IsOpenedPhysical, IsOpenedVirtual, SaysErased};
 ghost use Rattle.nl_device.specs.Retain.{CanRetain, kept_of};
-ghost use Rattle.nl_device.specs.Started.{HasVirtualSpare, IfFault, IfMemory, IfReady, IsStarted};
+ghost use Rattle.nl_device.specs.Started.{HasVirtualSpare, IfStartFault, IfStartMemory, IfStarted, IsStarted};
 
 use crate::device::Device;
 use crate::kept::Kept;
@@ -92,35 +92,35 @@ impl<M: Nand> Device<M> {
     /// pending.
     pub fn start(alloc: Global, media: M) -> Started<M>
         requires formed { IsTrue (is_legal (M.geometry media).blocks (M.geometry media).pages) }
-        ensures formed { IfReady result (λ d t. ⟦<Device<M> as Counts>⟧.formed d) }
-        ensures started { IfReady result
+        ensures formed { IfStarted result (λ d t. ⟦<Device<M> as Counts>⟧.formed d) }
+        ensures started { IfStarted result
             (λ d t. IsStarted (M.geometry media) t (⟦<Device<M> as Counts>⟧.shape d) (⟦<Device<M> as Counts>⟧.names d)
             (⟦<Device<M> as Counts>⟧.next_stamp d)) }
-        ensures clean { IfReady result
+        ensures clean { IfStarted result
             (λ d t. let shape = ⟦<Device<M> as Counts>⟧.shape d in ((block : ℕ) → shape.vblocks ≤ block → block < shape.blocks
             → SaysErased t block) → ⟦<Device<M> as Counts>⟧.clean d) }
-        ensures map { M.tells → IfReady result
+        ensures map { M.tells → IfStarted result
             (λ d t. (v : ℕ) → v < (⟦<Device<M> as Counts>⟧.shape d).vaddrs
             → ⟦<Device<M> as Counts>⟧.map d v ≡ option_map value_on (newest (M.contents media) v)) }
-        ensures agreed { M.tells → IfReady result
+        ensures agreed { M.tells → IfStarted result
             (λ d t. list_all (λ s. s.agrees) t.seen ≡ true → (v : ℕ) (x : Value) → v < (⟦<Device<M> as Counts>⟧.shape d).vaddrs
             → ⟦<Device<M> as Counts>⟧.failed d v x → ⊥) }
-        ensures spare { IfReady result
+        ensures spare { IfStarted result
             (λ d t. HasVirtualSpare M.tells (M.contents media) (⟦<Device<M> as Counts>⟧.shape d) t.seen
             → ⟦<Device<M> as Counts>⟧.keeps_spare d) }
-        ensures tables { M.tells → IfReady result (λ d t. IsTableOf (M.contents media) t) }
-        ensures fits { IfReady result (λ d t. FitsMedium (M.geometry media) t) }
-        ensures counts { IfReady result
+        ensures tables { M.tells → IfStarted result (λ d t. IsTableOf (M.contents media) t) }
+        ensures fits { IfStarted result (λ d t. FitsMedium (M.geometry media) t) }
+        ensures counts { IfStarted result
             (λ d t. (⟦<Device<M> as Counts>⟧.clock d ≡ M.clock media)
             × (⟦<Device<M> as Counts>⟧.read_faults d ≡ M.read_faults media)
             × (⟦<Device<M> as Counts>⟧.write_faults d ≡ M.write_faults media)) }
-        ensures kept { IfReady result (λ d t. OnlyReads M.geometry M.contents M.clock M.write_faults M.left media (medium_of d)) }
-        ensures scanned { IfReady result (λ d t. kept_of d ≡ kept_of_scan (⟦<Device<M> as Counts>⟧.shape d) t.seen) }
-        ensures nothing { IfReady result (λ d t. CanRetain (kept_of d) []) }
-        ensures fault { IfFault result
-            (λ m. Rose (M.read_faults media) (M.read_faults m) × OnlyReads M.geometry M.contents M.clock M.write_faults M.left media m) }
-        ensures memory { IfMemory result
-            (λ m. (M.read_faults m ≡ M.read_faults media) × OnlyReads M.geometry M.contents M.clock M.write_faults M.left media m) }
+        ensures kept { IfStarted result (λ d t. MediumOnlyRead M.geometry M.contents M.clock M.write_faults M.left media (medium_of d)) }
+        ensures scanned { IfStarted result (λ d t. kept_of d ≡ kept_of_scan (⟦<Device<M> as Counts>⟧.shape d) t.seen) }
+        ensures nothing { IfStarted result (λ d t. CanRetain (kept_of d) []) }
+        ensures fault { IfStartFault result
+            (λ m. Rose (M.read_faults media) (M.read_faults m) × MediumOnlyRead M.geometry M.contents M.clock M.write_faults M.left media m) }
+        ensures memory { IfStartMemory result
+            (λ m. (M.read_faults m ≡ M.read_faults media) × MediumOnlyRead M.geometry M.contents M.clock M.write_faults M.left media m) }
     {
         let mut media = media;
         let shape = legal_shape(media.geometry());

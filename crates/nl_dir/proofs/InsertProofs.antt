@@ -17,7 +17,7 @@ use Rattle.nl_meta.proofs.Lists.{some_in, none_some}
 use Rattle.nl_meta.proofs.SlotProofs.{one_slot}
 use Rattle.nl_dir.specs.Changes.{ChangesPages, InsertsEntry, touched_by, with_addresses}
 use Rattle.nl_dir.specs.Directory.{FitsFresh, IsDirectory, entry_at, longer}
-use Rattle.nl_dir.specs.Slots.{Holds, PutsEntry}
+use Rattle.nl_dir.specs.Slots.{AdmitsAddress, PutsEntry}
 use Rattle.nl_dir.proofs.EntryLists.{find-same, is_named, listed, listed-more, listed-same, one-named, some-of}
 use Rattle.nl_dir.proofs.PlaceFacts.{apart, below-length, one-page, one-row, one-slot, page-at, page-beside, row-there, same-place, shown, slot-kept, slot-put, slot-zero, spelled-there, zeros-length, zeros-zero}
 use Rattle.nl_dir.proofs.Records.{SpelledDir, dir-spelled, longer-address, longer-spelled, new-address, none-fits, some-fits, spelled-dir}
@@ -186,7 +186,7 @@ inserts-behind p q rec entry dir few absent fits puts =
 -- ---- a new page
 
 pub inserts-first : (p m q : Pages) (rec : InodeRec) (entry : EntryRec) (a : ℕ) → IsDirectory (page_of p) rec → rec.size < 1024 → entry_named (page_of p) rec entry.name ≡ None → FitsFresh p rec (Some a)
-    → Holds a p m → PutsEntry a 0 entry true m q → InsertsEntry entry (Some a) rec (longer rec (Some a)) p q
+    → AdmitsAddress a p m → PutsEntry a 0 entry true m q → InsertsEntry entry (Some a) rec (longer rec (Some a)) p q
 unfolding with_addresses
 inserts-first p m q rec entry a dir few absent fits holds puts =
     inserts p q rec entry (Some a) dir few absent fits grows pages (ap (λ (x : Pages). x.recent) whole)

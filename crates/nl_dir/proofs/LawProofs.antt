@@ -22,7 +22,7 @@ use Rattle.nl_dir.specs.Changes.{with_addresses}
 use Rattle.nl_meta.proofs.AddressProofs.{inode_spelled}
 use Rattle.nl_meta.proofs.NodeProofs.{same_rec}
 use Rattle.nl_dir.specs.Directory.{IsDirectory, entry_at}
-use Rattle.nl_dir.specs.DirectoryLaws.{ChangeTakesRoom, ChangedPagesRun, EmptyIsDirectory, EntriesInOrder, OnlyOwnPages, OwnPages, ResidentIsRunning, RightIsDirectory, SamePages}
+use Rattle.nl_dir.specs.DirectoryLaws.{ChangeTakesRoom, ChangedPagesRun, EmptyIsDirectory, EntriesInOrder, OnlyOwnPages, OwnPages, ResidentIsRunning, RightIsDirectory, SameDirectoryPages}
 use Rattle.nl_dir.proofs.EntryLists.{has-listed, listed-at, listed-has, listed-length, listed-same, named-at, one-named}
 use Rattle.nl_dir.proofs.PlaceFacts.{head, head-below, one-dirtier, same-place, spelled-there}
 use Rattle.nl_dir.proofs.Records.{spelled-dir, true_false}
@@ -95,7 +95,7 @@ empty_is_directory pages rec dir spelled zero-size = record {
 
 -- ---- the same pages
 
-module _ (rec : InodeRec) (old new : VirtualMap) (same : SamePages rec old new) where
+module _ (rec : InodeRec) (old new : VirtualMap) (same : SameDirectoryPages rec old new) where
   -- a place of the last page, below the size or not
   row-same : (i : ℕ) → i < 64 * div_ceil rec.size 64 → new (address_of_place rec i) ≡ old (address_of_place rec i)
   row-same i h = subst (λ (v : ℕ). new v ≡ old v) (head rec i) (same (64 * (i / 64)) (head-below rec i h))

@@ -17,7 +17,7 @@ use Rattle.nl_meta.specs.Steps.{with_dirty}
 use Rattle.nl_meta.proofs.Rising.{split}
 use Rattle.nl_meta.proofs.SlotProofs.{one_slot}
 use Rattle.nl_dir.specs.Changes.{ChangesPages, with_addresses}
-use Rattle.nl_dir.specs.Directory.{HasPlaces, HasRoomFor}
+use Rattle.nl_dir.specs.Directory.{HasPlaces, HasRoomForDirty}
 
 -- ---- zeros
 
@@ -155,7 +155,7 @@ slot-kept i j bytes main whole low width far = one_slot.kept 64 i j bytes main w
 
 -- ---- room
 
-pub room-for : (p : Pages) (n v : ℕ) → 1 ≤ n → HasRoomFor n p → has_room p v ≡ true
+pub room-for : (p : Pages) (n v : ℕ) → 1 ≤ n → HasRoomForDirty n p → has_room p v ≡ true
 room-for p n v some h = or_right _ _ (lt-ltb (length (besides_0 p.dirty)) 63 (omega (arith, some, h)))
 
 -- one address more takes the room of one at most
@@ -174,5 +174,5 @@ one-dirtier v dirty =
     most-one true xs = omega arith
     most-one false xs = omega arith
 
-pub room-after : (p : Pages) (v : ℕ) (bytes : List ℕ) → HasRoomFor 2 p → HasRoomFor 1 (with_dirty p v bytes)
+pub room-after : (p : Pages) (v : ℕ) (bytes : List ℕ) → HasRoomForDirty 2 p → HasRoomForDirty 1 (with_dirty p v bytes)
 room-after p v bytes h = let m = one-dirtier v p.dirty in omega (arith, m, h)

@@ -14,8 +14,8 @@ use Rattle.nl_meta.specs.SlotLaws.{with_slot}
 use Rattle.nl_meta.specs.Steps.{with_dirty}
 use Rattle.nl_meta.proofs.Lists.{some_in}
 use Rattle.nl_meta.proofs.SlotProofs.{one_slot}
-use Rattle.nl_dir.specs.Changes.{ChangesPages, RemovesEntry, with_addresses}
-use Rattle.nl_dir.specs.Directory.{HasPlaces, HasRoomFor, IsDirectory, entry_at, given_up, last_alone, shorter}
+use Rattle.nl_dir.specs.Changes.{ChangesPages, RemovesDirectoryEntry, with_addresses}
+use Rattle.nl_dir.specs.Directory.{HasPlaces, HasRoomForDirty, IsDirectory, entry_at, given_up, last_alone, shorter}
 use Rattle.nl_dir.specs.Looking.{IsNamedAt}
 use Rattle.nl_dir.specs.Slots.{DropsLast, FillsPlace, PutsSlot}
 use Rattle.nl_dir.proofs.EntryLists.{find-same, is_named, listed, listed-moved, none-named, position-at, some-of}
@@ -31,7 +31,7 @@ pub record PutsPlace (rec : InodeRec) (place : ℕ) (bytes : List ℕ) (p q : Pa
   pub there : (u : ℕ) → IsSome (page_of p u) → IsSome (page_of q u)
   pub pages : ChangesPages (address_of_place rec place ∷ []) p q
   pub recent : q.recent ≡ p.recent
-  pub room : HasRoomFor 2 p → HasRoomFor 1 q
+  pub room : HasRoomForDirty 2 p → HasRoomForDirty 1 q
 
 pub puts-place : (p q : Pages) (rec : InodeRec) (place : ℕ) (bytes : List ℕ) → HasPlaces (page_of p) rec → place < rec.size → length bytes ≡ 64
     → PutsSlot (address_of_place rec place) (place % 64) bytes p q → PutsPlace rec place bytes p q
@@ -43,7 +43,7 @@ puts-place p q rec place bytes has below width puts = record {
   there = λ u h. by u h (cases_eq u v);
   pages = subst (λ (x : Pages). ChangesPages (v ∷ []) p x) (sym puts.page) (one-page p v page inside);
   recent = ap (λ (x : Pages). x.recent) puts.page;
-  room = λ h. subst (λ (x : Pages). HasRoomFor 1 x) (sym puts.page) (room-after p v page h);
+  room = λ h. subst (λ (x : Pages). HasRoomForDirty 1 x) (sym puts.page) (room-after p v page h);
 }
   where
     v : ℕ
@@ -296,7 +296,7 @@ module _ (p m q : Pages) (rec : InodeRec) (name : List ℕ) (place : ℕ) (dir :
               before s = omega (arith, below, s, apart)
           by (inr less) = (i, omega (arith, h, less), kept i (omega (arith, h, less)) apart ∙ is)
 
-  pub removes : RemovesEntry name (given_up rec) rec after p q
+  pub removes : RemovesDirectoryEntry name (given_up rec) rec after p q
   unfolding entry_named entries_of_inode
   removes = record {
     record_after = refl;

@@ -6,7 +6,7 @@ use Rattle.nl_field.specs.declared.inode.InodeRec.{InodeRec}
 use Rattle.nl_meta.specs.Committed.{VirtualMap}
 use Rattle.nl_meta.specs.Nodes.{entries_of_inode, slots_of}
 use Rattle.nl_meta.specs.Pages.{Pages, page_of}
-use Rattle.nl_dir.specs.Changes.{InsertsEntry, RemovesEntry}
+use Rattle.nl_dir.specs.Changes.{InsertsEntry, RemovesDirectoryEntry}
 use Rattle.nl_dir.specs.Directory.{FitsFresh, HasPlaces, IsDirectory, given_up, longer, shorter}
 
 -- Slot k of the record has this address, which is not 0.
@@ -32,5 +32,5 @@ ListsInserted = (entry : EntryRec) (fresh : Option ℕ) (rec after : InodeRec) (
 abbrev pub ListsRemoved : Type 0
 ListsRemoved =
     (name : List ℕ) (gone : Option ℕ) (rec after : InodeRec) (old new : Pages) → IsDirectory (page_of old) rec
-    → RemovesEntry name gone rec after old new
+    → RemovesDirectoryEntry name gone rec after old new
     → (e : EntryRec) → Has (entries_of_inode (page_of new) after) e ↔ (Has (entries_of_inode (page_of old) rec) e × (e.name ≢ name))

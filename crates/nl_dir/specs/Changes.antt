@@ -50,7 +50,7 @@ changed_by_removal rec at =
     (if at == rec.size - 1 then [] else (address_of_place rec at ∷ [])) ++ (if last_alone rec then [] else (address_of_place rec (rec.size - 1) ∷ []))
 
 -- The last entry stands in the place of the one that had the name, and the directory is one shorter.
-pub record RemovesEntry (name : List ℕ) (gone : Option ℕ) (rec after : InodeRec) (old new : Pages) : Type 0 where
+pub record RemovesDirectoryEntry (name : List ℕ) (gone : Option ℕ) (rec after : InodeRec) (old new : Pages) : Type 0 where
   pub record_after : after ≡ shorter rec
   pub given : gone ≡ given_up rec
   pub directory : IsDirectory (page_of new) after

@@ -35,8 +35,8 @@ pub record IsDirectory (pages : VirtualMap) (rec : InodeRec) : Type 0 where
 -- ---- what a change needs
 
 -- There is room for so many more dirty pages.
-abbrev pub HasRoomFor : ℕ → Pages → Type 0
-HasRoomFor n p = length (besides_0 p.dirty) + n ≤ most
+abbrev pub HasRoomForDirty : ℕ → Pages → Type 0
+HasRoomForDirty n p = length (besides_0 p.dirty) + n ≤ most
 
 -- An address for a new page is given exactly where the last page is full; it is not 0, and no page of the directory has it.
 pub record FitsFresh (p : Pages) (rec : InodeRec) (fresh : Option ℕ) : Type 0 where

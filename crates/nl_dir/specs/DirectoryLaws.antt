@@ -12,7 +12,7 @@ use Rattle.nl_meta.specs.Nodes.{address_of_place, entries_of_inode, entry_named}
 use Rattle.nl_meta.specs.Pages.{Pages, page_of}
 use Rattle.nl_meta.specs.Running.{CleanIsStored, running_over}
 use Rattle.nl_dir.specs.Changes.{ChangesPages}
-use Rattle.nl_dir.specs.Directory.{HasRoomFor, IsDirectory, entry_at}
+use Rattle.nl_dir.specs.Directory.{HasRoomForDirty, IsDirectory, entry_at}
 
 -- A directory of metadata that is right is one.
 abbrev pub RightIsDirectory : Type 0
@@ -25,8 +25,8 @@ abbrev pub EmptyIsDirectory : Type 0
 EmptyIsDirectory = (pages : VirtualMap) (rec : InodeRec) → rec.kind ≡ Dir → IsTrue (is_inode rec) → rec.size ≡ 0 → IsDirectory pages rec
 
 -- Two maps have the same pages of the places of a directory.
-abbrev pub SamePages : InodeRec → VirtualMap → VirtualMap → Type 0
-SamePages rec old new = (i : ℕ) → i < rec.size → new (address_of_place rec i) ≡ old (address_of_place rec i)
+abbrev pub SameDirectoryPages : InodeRec → VirtualMap → VirtualMap → Type 0
+SameDirectoryPages rec old new = (i : ℕ) → i < rec.size → new (address_of_place rec i) ≡ old (address_of_place rec i)
 
 pub record OwnPages (rec : InodeRec) (old new : VirtualMap) : Type 0 where
   pub directory : IsDirectory old rec → IsDirectory new rec
@@ -34,16 +34,16 @@ pub record OwnPages (rec : InodeRec) (old new : VirtualMap) : Type 0 where
 
 -- Only its own pages say what a directory has.
 abbrev pub OnlyOwnPages : Type 0
-OnlyOwnPages = (rec : InodeRec) (old new : VirtualMap) → SamePages rec old new → OwnPages rec old new
+OnlyOwnPages = (rec : InodeRec) (old new : VirtualMap) → SameDirectoryPages rec old new → OwnPages rec old new
 
 -- The list of entries has those of the places, in order, and an entry is in it exactly where it is the one of its name.
-pub record InOrder (pages : VirtualMap) (rec : InodeRec) : Type 0 where
+pub record ListsEntriesInOrder (pages : VirtualMap) (rec : InodeRec) : Type 0 where
   pub count : length (entries_of_inode pages rec) ≡ rec.size
   pub each : (i : ℕ) → i < rec.size → slice_get (entries_of_inode pages rec) i ≡ entry_at pages rec i
   pub by_name : (e : EntryRec) → Has (entries_of_inode pages rec) e ↔ (entry_named pages rec e.name ≡ Some e)
 
 abbrev pub EntriesInOrder : Type 0
-EntriesInOrder = (pages : VirtualMap) (rec : InodeRec) → IsDirectory pages rec → InOrder pages rec
+EntriesInOrder = (pages : VirtualMap) (rec : InodeRec) → IsDirectory pages rec → ListsEntriesInOrder pages rec
 
 -- A directory whose pages are resident is one over any device exactly where it is one in memory, with the same entries.
 pub record ResidentRuns (device : VirtualMap) (p : Pages) (rec : InodeRec) : Type 0 where
@@ -71,4 +71,4 @@ ChangedPagesRun =
 -- Each page that changed takes the room of one at most.
 abbrev pub ChangeTakesRoom : Type 0
 ChangeTakesRoom =
-    (changed : List ℕ) (old new : Pages) (n : ℕ) → ChangesPages changed old new → HasRoomFor (n + length changed) old → HasRoomFor n new
+    (changed : List ℕ) (old new : Pages) (n : ℕ) → ChangesPages changed old new → HasRoomForDirty (n + length changed) old → HasRoomForDirty n new

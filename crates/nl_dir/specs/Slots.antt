@@ -25,7 +25,7 @@ pub record PutsEntry (v i : ℕ) (entry : EntryRec) (is_new : Bool) (old new : P
   pub back : entry_of (entry_bytes entry) ≡ Some entry
 
 -- An address is resident and touched.
-pub record Holds (v : ℕ) (old new : Pages) : Type 0 where
+pub record AdmitsAddress (v : ℕ) (old new : Pages) : Type 0 where
   pub bytes : List ℕ
   pub page : new ≡ with_admitted old v bytes
 

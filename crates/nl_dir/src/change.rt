@@ -2,8 +2,8 @@
 ghost use Rattle.std.specs.Prelude.{◌≡◌, ◌<◌, IsSome, None, Some};
 ghost use Rattle.nl_meta.specs.Nodes.{entry_named};
 ghost use Rattle.nl_meta.specs.Pages.{page_of};
-ghost use Rattle.nl_dir.specs.Changes.{InsertsEntry, RemovesEntry};
-ghost use Rattle.nl_dir.specs.Directory.{FitsFresh, HasPlaces, HasRoomFor, IsDirectory, given_up, longer};
+ghost use Rattle.nl_dir.specs.Changes.{InsertsEntry, RemovesDirectoryEntry};
+ghost use Rattle.nl_dir.specs.Directory.{FitsFresh, HasPlaces, HasRoomForDirty, IsDirectory, given_up, longer};
 ghost use Rattle.nl_dir.specs.Slots.{DropsLast, FillsPlace};
 
 use crate::look::{address_at, count, page_at, place_of};
@@ -18,7 +18,7 @@ pub fn insert(rec: &mut InodeRec, meta: &mut Meta, entry: &EntryRec, fresh: Opti
     requires directory { IsDirectory (page_of meta.old) rec.old }
     requires few { rec.old.size < 1024 }
     requires absent { entry_named (page_of meta.old) rec.old entry.now.name ≡ None }
-    requires room { HasRoomFor 1 meta.old }
+    requires room { HasRoomForDirty 1 meta.old }
     requires fresh { FitsFresh meta.old rec.old fresh }
     ensures { InsertsEntry entry.now fresh rec.old rec.new meta.old meta.new }
 {
@@ -34,7 +34,7 @@ fn put_first(rec: &InodeRec, meta: &mut Meta, entry: &EntryRec, vaddr: u32)
     requires directory { IsDirectory (page_of meta.old) rec.now }
     requires few { rec.now.size < 1024 }
     requires absent { entry_named (page_of meta.old) rec.now entry.now.name ≡ None }
-    requires room { HasRoomFor 1 meta.old }
+    requires room { HasRoomForDirty 1 meta.old }
     requires fresh { FitsFresh meta.old rec.now (Some vaddr) }
     ensures { InsertsEntry entry.now (Some vaddr) rec.now (longer rec.now (Some vaddr)) meta.old meta.new }
 {
@@ -47,7 +47,7 @@ fn put_behind(rec: &InodeRec, meta: &mut Meta, entry: &EntryRec)
     requires directory { IsDirectory (page_of meta.old) rec.now }
     requires few { rec.now.size < 1024 }
     requires absent { entry_named (page_of meta.old) rec.now entry.now.name ≡ None }
-    requires room { HasRoomFor 1 meta.old }
+    requires room { HasRoomForDirty 1 meta.old }
     requires fresh { FitsFresh meta.old rec.now None }
     ensures { InsertsEntry entry.now None rec.now (longer rec.now None) meta.old meta.new }
 {
@@ -72,8 +72,8 @@ fn lengthen(rec: &mut InodeRec, fresh: Option<u32>)
 pub fn remove(rec: &mut InodeRec, meta: &mut Meta, name: &[u8]) -> Option<u32>
     requires directory { IsDirectory (page_of meta.old) rec.old }
     requires there { IsSome (entry_named (page_of meta.old) rec.old name.now) }
-    requires room { HasRoomFor 2 meta.old }
-    ensures { RemovesEntry name.now result rec.old rec.new meta.old meta.new }
+    requires room { HasRoomForDirty 2 meta.old }
+    ensures { RemovesDirectoryEntry name.now result rec.old rec.new meta.old meta.new }
 {
     match place_of(rec, meta, name) {
         Some(place) => {
@@ -88,10 +88,10 @@ pub fn remove(rec: &mut InodeRec, meta: &mut Meta, name: &[u8]) -> Option<u32>
 fn fill(rec: &InodeRec, meta: &mut Meta, place: u32)
     requires places { HasPlaces (page_of meta.old) rec.now }
     requires below { place < rec.now.size }
-    requires room { HasRoomFor 2 meta.old }
+    requires room { HasRoomForDirty 2 meta.old }
     ensures filled { FillsPlace place rec.now meta.old meta.new }
     ensures places { HasPlaces (page_of meta.new) rec.now }
-    ensures room { HasRoomFor 1 meta.new }
+    ensures room { HasRoomForDirty 1 meta.new }
 {
     let last = count(rec) - 1;
     if place != last {
@@ -104,7 +104,7 @@ fn fill(rec: &InodeRec, meta: &mut Meta, place: u32)
 fn drop_last(rec: &mut InodeRec, meta: &mut Meta) -> Option<u32>
     requires places { HasPlaces (page_of meta.old) rec.old }
     requires some { 0 < rec.old.size }
-    requires room { HasRoomFor 1 meta.old }
+    requires room { HasRoomForDirty 1 meta.old }
     ensures dropped { DropsLast rec.old rec.new meta.old meta.new }
     ensures places { HasPlaces (page_of meta.new) rec.new }
     ensures given { result ≡ given_up rec.old }

@@ -5,7 +5,7 @@ ghost use Rattle.nl_field.specs.EntryRecord.{entry_bytes, entry_fields, entry_of
 ghost use Rattle.nl_meta.specs.Nodes.{slot_in};
 ghost use Rattle.nl_meta.specs.Pages.{has_room, page_of};
 ghost use Rattle.nl_meta.specs.SlotLaws.{with_slot};
-ghost use Rattle.nl_dir.specs.Slots.{Holds, PutsEntry, PutsSlot};
+ghost use Rattle.nl_dir.specs.Slots.{AdmitsAddress, PutsEntry, PutsSlot};
 
 use nl_field::{EntryRec, PageBuf};
 use nl_meta::Meta;
@@ -115,7 +115,7 @@ fn write_over(page: &mut PageBuf, slot: u32, entry: &EntryRec)
 // The page of an address is resident, whatever it has, and touched.
 pub(crate) fn hold(meta: &mut Meta, vaddr: u32)
     requires { vaddr < length meta.old.running }
-    ensures { Holds vaddr meta.old meta.new }
+    ensures { AdmitsAddress vaddr meta.old meta.new }
 {
     if meta.resident(vaddr) {
         meta.touch(vaddr);

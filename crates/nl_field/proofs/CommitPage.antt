@@ -2,7 +2,7 @@
 use Rattle.std.proofs.Common.{◌≡◌, List, ℕ, Some, refl, length}
 use Rattle.std.specs.Prelude.{IsTrue}
 use Rattle.nl_field.specs.Bytes.{zeros}
-use Rattle.nl_field.specs.Spelling.{u64_bytes, u64_at, Reads}
+use Rattle.nl_field.specs.Spelling.{u64_bytes, u64_at, Decodes}
 use Rattle.nl_field.specs.Journal.{commit_head, commit_bytes, commit_fields, commit_of, is_commit, fits_commit}
 use Rattle.nl_field.specs.declared.commit.CommitRec.{CommitRec}
 use Rattle.nl_field.proofs.AreBytes.{AreBytes, u64-back, stamp-fits}
@@ -18,7 +18,7 @@ commit-back rec fits spelled =
     let n = u64-back rec.number (zeros 4080) (stamp-fits rec.number spelled) in
     λ i. record { number = n i }
 
-pub commit-reads : (bytes : List ℕ) → AreBytes bytes → Reads fits_commit is_commit commit_bytes bytes (commit_of bytes)
+pub commit-reads : (bytes : List ℕ) → AreBytes bytes → Decodes fits_commit is_commit commit_bytes bytes (commit_of bytes)
 unfolding commit_of
 commit-reads bytes are = reads-spelled fits_commit is_commit commit_bytes commit_fields bytes refl commit-back
 

@@ -2,7 +2,7 @@
 use Rattle.std.proofs.Common.{◌≡◌, ◌++◌, ◌-◌, ◌∷◌, List, ℕ, Some, refl, length, replicate}
 use Rattle.std.proofs.lemmas.List.{take_at}
 use Rattle.std.specs.Prelude.{IsTrue}
-use Rattle.nl_field.specs.Spelling.{u32_bytes, u32_at, fits_u32, Reads}
+use Rattle.nl_field.specs.Spelling.{u32_bytes, u32_at, fits_u32, Decodes}
 use Rattle.nl_field.specs.EntryRecord.{entry_bytes, entry_fields, entry_of, is_entry, fits_entry}
 use Rattle.nl_field.specs.declared.entry.EntryRec.{EntryRec}
 use Rattle.nl_field.proofs.AreBytes.{AreBytes, IsTrue-and_left, IsTrue-and_right, fits-u32_at, u32-back}
@@ -21,7 +21,7 @@ fits-fields : (bytes : List ℕ) → AreBytes bytes → IsTrue (fits_entry (entr
 unfolding fits_entry entry_fields
 fits-fields bytes are = rw (fits-u32_at bytes 0 are, fits-u32_at bytes 4 are) refl
 
-pub entry-reads : (bytes : List ℕ) → AreBytes bytes → Reads fits_entry is_entry entry_bytes bytes (entry_of bytes)
+pub entry-reads : (bytes : List ℕ) → AreBytes bytes → Decodes fits_entry is_entry entry_bytes bytes (entry_of bytes)
 unfolding entry_of
 entry-reads bytes are = reads-spelled fits_entry is_entry entry_bytes entry_fields bytes (fits-fields bytes are) entry-back
 

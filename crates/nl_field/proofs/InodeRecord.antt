@@ -8,7 +8,7 @@ use Rattle.std.specs.List.{flat_map, list_all}
 use Rattle.std.specs.Prelude.{IsTrue, nat_le}
 use Rattle.nl_field.specs.Bytes.{all_zero}
 use Rattle.nl_field.specs.Numbers.{max_file_size, max_entries}
-use Rattle.nl_field.specs.Spelling.{u32_bytes, u64_bytes, u32_at, u64_at, u32s, gap, fits_u32, Reads}
+use Rattle.nl_field.specs.Spelling.{u32_bytes, u64_bytes, u32_at, u64_at, u32s, gap, fits_u32, Decodes}
 use Rattle.nl_field.specs.Pointers.{is_none_pointer, is_pointer, fits_pointer, pointer_bytes, pointer_fields, pointers}
 use Rattle.nl_field.specs.Inode.{kind_byte, kind_of, inode_bytes, inode_fields, inode_of, is_inode, is_inode_of_kind, are_filled, fits_inode}
 use Rattle.nl_field.specs.declared.pointer.Pointer.{Pointer}
@@ -83,7 +83,7 @@ fits-fields bytes are =
     let fits_addresses = list_all-each_of (λ row. u32_at row 0) fits_u32 4 16 (drop 192 bytes) (λ row are_row. fits-u32_at row 0 are_row) (AreBytes-drop 192 bytes are) in
     rw (fits-u32_at bytes 4 are, fits_direct, fits_addresses) refl
 
-pub inode-reads : (bytes : List ℕ) → AreBytes bytes → Reads fits_inode is_inode inode_bytes bytes (inode_of bytes)
+pub inode-reads : (bytes : List ℕ) → AreBytes bytes → Decodes fits_inode is_inode inode_bytes bytes (inode_of bytes)
 unfolding inode_of
 inode-reads bytes are = reads-spelled fits_inode is_inode inode_bytes inode_fields bytes (fits-fields bytes are) inode-back
 

@@ -5,7 +5,7 @@ use Rattle.std.proofs.lemmas.Bool.{leb-true, lt-ltb}
 use Rattle.std.specs.List.{flat_map, list_all}
 use Rattle.std.specs.Prelude.{IsTrue, nat_le, nat_lt, codes}
 use Rattle.nl_field.specs.Bytes.{zeros}
-use Rattle.nl_field.specs.Spelling.{u32_bytes, u64_bytes, u32_at, u64_at, u32s, gap, fits_u32, is_transaction_number, Reads}
+use Rattle.nl_field.specs.Spelling.{u32_bytes, u64_bytes, u32_at, u64_at, u32s, gap, fits_u32, is_transaction_number, Decodes}
 use Rattle.nl_field.specs.Journal.{header_head, header_bytes, header_fields, header_of, is_header, fits_header, are_home_addresses}
 use Rattle.nl_field.specs.declared.header.HeaderRec.{HeaderRec}
 use Rattle.nl_field.proofs.AreBytes.{AreBytes, AreBytes-drop, IsTrue-and_left, IsTrue-and_right, fits-u32_at, u32-back, u64-back, stamp-fits}
@@ -32,7 +32,7 @@ fits-fields : (bytes : List ℕ) → AreBytes bytes → IsTrue (fits_header (hea
 unfolding fits_header header_fields
 fits-fields bytes are = list_all-each_of (λ row. u32_at row 0) fits_u32 4 (min 64 (u32_at bytes 16)) (drop 24 bytes) (λ row are_row. fits-u32_at row 0 are_row) (AreBytes-drop 24 bytes are)
 
-pub header-reads : (bytes : List ℕ) → AreBytes bytes → Reads fits_header is_header header_bytes bytes (header_of bytes)
+pub header-reads : (bytes : List ℕ) → AreBytes bytes → Decodes fits_header is_header header_bytes bytes (header_of bytes)
 unfolding header_of
 header-reads bytes are = reads-spelled fits_header is_header header_bytes header_fields bytes (fits-fields bytes are) header-back
 

@@ -3,7 +3,7 @@ use Rattle.std.proofs.Common.{◌≡◌, ◌==◌, ◌&&◌, ◌||◌, ◌++◌,
 use Rattle.std.proofs.lemmas.Bool.{eqb-true}
 use Rattle.std.proofs.lemmas.List.{append-nil}
 use Rattle.std.specs.Prelude.{IsTrue}
-use Rattle.nl_field.specs.Spelling.{u32_bytes, u64_bytes, u32_at, u64_at, gap, is_stamp, Reads}
+use Rattle.nl_field.specs.Spelling.{u32_bytes, u64_bytes, u32_at, u64_at, gap, is_stamp, Decodes}
 use Rattle.nl_field.specs.Pointers.{is_none_pointer, is_pointer, fits_pointer, pointer_bytes, pointer_fields, pointer_of}
 use Rattle.nl_field.specs.declared.pointer.Pointer.{Pointer}
 use Rattle.nl_field.proofs.AreBytes.{AreBytes, IsTrue-and_left, IsTrue-and_right, fits-u32_at, u32-back, u64-back, stamp-fits}
@@ -36,7 +36,7 @@ fits-fields : (bytes : List ℕ) → AreBytes bytes → IsTrue (fits_pointer (po
 unfolding pointer_fields
 fits-fields bytes are = fits-u32_at bytes 0 are
 
-pub pointer-reads : (bytes : List ℕ) → AreBytes bytes → Reads fits_pointer is_pointer pointer_bytes bytes (pointer_of bytes)
+pub pointer-reads : (bytes : List ℕ) → AreBytes bytes → Decodes fits_pointer is_pointer pointer_bytes bytes (pointer_of bytes)
 unfolding pointer_of
 pointer-reads bytes are = reads-spelled fits_pointer is_pointer pointer_bytes pointer_fields bytes (fits-fields bytes are) whole-back
 

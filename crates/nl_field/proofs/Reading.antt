@@ -3,7 +3,7 @@ use Rattle.std.proofs.Common.{◌≡◌, ◌&&◌, Bool, true, false, List, ℕ,
 use Rattle.std.specs.Prelude.{IsTrue, if◌then◌else◌}
 use Rattle.std.specs.Str.{bytes_eq}
 use Rattle.std.proofs.lemmas.Slice.Eq.{bytes_eq-Decides}
-use Rattle.nl_field.specs.Spelling.{spelled_by, Reads}
+use Rattle.nl_field.specs.Spelling.{spelled_by, Decodes}
 use Rattle.nl_field.proofs.AreBytes.{IsTrue-and_left, IsTrue-and_right}
 
 -- where the fields of a value's bytes are the value, its bytes spell it
@@ -16,10 +16,10 @@ spelled-back has bytes_of fields value back spelled =
 -- what is read from any bytes is what they spell
 pub reads-spelled : {R : Type 0} (fits has : R → Bool) (bytes_of : R → List ℕ) (fields : List ℕ → R) (bytes : List ℕ)
     → IsTrue (fits (fields bytes)) → ((value : R) → IsTrue (fits value) → IsTrue (has value) → fields (bytes_of value) ≡ value)
-    → Reads fits has bytes_of bytes (spelled_by has bytes_of (fields bytes) bytes)
+    → Decodes fits has bytes_of bytes (spelled_by has bytes_of (fields bytes) bytes)
 reads-spelled {R} fits has bytes_of fields bytes fit back =
-    let of_test : (t : Bool) → (has (fields bytes) && bytes_eq (bytes_of (fields bytes)) bytes) ≡ t → Reads fits has bytes_of bytes (if t then Some (fields bytes) else None) =
-    λ t. elim t as (λ t. (has (fields bytes) && bytes_eq (bytes_of (fields bytes)) bytes) ≡ t → Reads fits has bytes_of bytes (if t then Some (fields bytes) else None)) [
+    let of_test : (t : Bool) → (has (fields bytes) && bytes_eq (bytes_of (fields bytes)) bytes) ≡ t → Decodes fits has bytes_of bytes (if t then Some (fields bytes) else None) =
+    λ t. elim t as (λ t. (has (fields bytes) && bytes_eq (bytes_of (fields bytes)) bytes) ≡ t → Decodes fits has bytes_of bytes (if t then Some (fields bytes) else None)) [
       | true ↦ λ e. (
         fit,
         IsTrue-and_left (has (fields bytes)) (bytes_eq (bytes_of (fields bytes)) bytes) e,

@@ -5,8 +5,8 @@ use Rattle.nl_field.specs.Page.{Image}
 use Rattle.nl_field.specs.Numbers.{shape_for}
 use Rattle.nl_field.specs.Medium.{Readable, shape_of_image, stamp_on, address_on, first_physical, is_virtual_rec, is_physical_rec, readable_pages, virtual_pages, physical_pages}
 use Rattle.nl_field.specs.Scan.{agrees_below}
-use Rattle.nl_field.specs.ScanList.{seen_of, seen_in, on_list, virtual_seen, physical_seen, holds_seen, is_lost_seen, owns_seen, virtual_spare_seen, physical_spare_seen, place_seen, ListsTell}
-use Rattle.nl_field.specs.Space.{PageView, on_image, holds_among, is_among, holds_stamp, is_lost, owns_name, spare_among, spare_block, has_greatest_among, virtual_spare_among, virtual_spare, physical_spare_among, physical_spare, place_outside, is_outside}
+use Rattle.nl_field.specs.ScanList.{seen_of, seen_in, on_list, virtual_seen, physical_seen, holds_seen, is_lost_seen, owns_seen, virtual_spare_seen, physical_spare_seen, place_seen, ListsAreOfImages}
+use Rattle.nl_field.specs.Space.{PageView, on_image, holds_among, is_among, holds_stamp, is_stale_pointer, owns_name, spare_among, spare_block, has_greatest_among, virtual_spare_among, virtual_spare, physical_spare_among, physical_spare, place_outside, is_outside}
 use Rattle.nl_field.specs.SpareRecord.{stamp_of}
 use Rattle.nl_field.specs.declared.pointer.Pointer.{Pointer}
 use Rattle.nl_field.specs.declared.seen.Seen.{Seen}
@@ -78,7 +78,7 @@ module _ (image : Image) where
   among : (page : ℕ) → is_among on_list (physical_seen (shape_of_image image) (seen_in image)) page ≡ is_among on_image (physical_pages image) page
   among page = ap (λ (ss : List Seen). is_among on_list ss page) physical_is ∙ any_mapped f (λ s. s.page == page) (physical_pages image)
 
-  pub lost : (p : Pointer) → is_lost_seen (shape_of_image image) (seen_in image) p ≡ is_lost image p
+  pub lost : (p : Pointer) → is_lost_seen (shape_of_image image) (seen_in image) p ≡ is_stale_pointer image p
   lost p = ap not (holds p.name p.stamp)
 
   pub owns : (p : Pointer) → owns_seen (shape_of_image image) (seen_in image) p ≡ owns_name image p
@@ -122,7 +122,7 @@ module _ (image : Image) where
           ∙ read (find (λ r. stamp_of r.rec == p.stamp && is_outside shape.pages spare r.page) (physical_pages image))
           ∙ ap (λ (size : ℕ). option_map (λ (r : Readable). r.page) (find (λ r. stamp_of r.rec == p.stamp && is_outside size spare r.page) (physical_pages image))) pages_are
 
-pub lists_tell : ListsTell
+pub lists_tell : ListsAreOfImages
 lists_tell image = record {
   each = each image;
   virtual = virtual_is image;

@@ -1,7 +1,7 @@
 -- The spare record is read back from its bytes, and what is read fits its fields.
 use Rattle.std.proofs.Common.{◌≡◌, ◌&&◌, ◌==◌, ◌++◌, Bool, true, false, List, ℕ, Some, refl, slice_index}
 use Rattle.std.specs.Prelude.{IsTrue, if◌then◌else◌}
-use Rattle.nl_field.specs.Spelling.{u32_bytes, u64_bytes, u32_at, u64_at, gap, fits_u32, Reads}
+use Rattle.nl_field.specs.Spelling.{u32_bytes, u64_bytes, u32_at, u64_at, gap, fits_u32, Decodes}
 use Rattle.nl_field.specs.SpareRecord.{spare_bytes, spare_fields, spare_rec_of, is_spare, fits_spare}
 use Rattle.nl_field.specs.declared.spare.SpareRec.{SpareRec}
 use Rattle.nl_field.specs.declared.spare.SpareRec.TheVariants.{Virtual, Physical}
@@ -33,7 +33,7 @@ unfolding fits_spare
 fits-fields bytes are true = rw (fits-u32_at bytes 16 are, fits-u32_at bytes 4 are) refl
 fits-fields bytes are false = rw (fits-u32_at bytes 16 are, fits-u32_at bytes 20 are, fits-u32_at bytes 24 are, fits-u32_at bytes 4 are) refl
 
-pub spare-reads : (bytes : List ℕ) → AreBytes bytes → Reads fits_spare is_spare spare_bytes bytes (spare_rec_of bytes)
+pub spare-reads : (bytes : List ℕ) → AreBytes bytes → Decodes fits_spare is_spare spare_bytes bytes (spare_rec_of bytes)
 unfolding spare_rec_of spare_fields
 spare-reads bytes are = reads-spelled fits_spare is_spare spare_bytes spare_fields bytes (fits-fields bytes are (slice_index bytes 0 == 1)) spare-back
 

@@ -3,7 +3,7 @@ use Rattle.std.proofs.Common.{◌≡◌, ◌==◌, ◌++◌, ◌<◌, ◌^◌, L
 use Rattle.std.proofs.lemmas.Bool.{eqb-true, ltb-true}
 use Rattle.std.specs.Prelude.{IsTrue, nat_lt}
 use Rattle.nl_field.specs.Bytes.{zeros}
-use Rattle.nl_field.specs.Spelling.{u32_bytes, u64_bytes, u32_at, u64_at, gap, fits_u32, Reads}
+use Rattle.nl_field.specs.Spelling.{u32_bytes, u64_bytes, u32_at, u64_at, gap, fits_u32, Decodes}
 use Rattle.nl_field.specs.SuperPage.{super_head, super_bytes, super_fields, super_of, is_super, fits_super}
 use Rattle.nl_field.specs.declared.super_page.SuperRec.{SuperRec}
 use Rattle.nl_field.proofs.AreBytes.{AreBytes, IsTrue-and_left, IsTrue-and_right, fits-u32_at, u32-back, u64-back}
@@ -29,7 +29,7 @@ fits-fields : (bytes : List ℕ) → AreBytes bytes → IsTrue (fits_super (supe
 unfolding fits_super super_fields
 fits-fields bytes are = rw (fits-u32_at bytes 12 are, fits-u32_at bytes 16 are) refl
 
-pub super-reads : (bytes : List ℕ) → AreBytes bytes → Reads fits_super is_super super_bytes bytes (super_of bytes)
+pub super-reads : (bytes : List ℕ) → AreBytes bytes → Decodes fits_super is_super super_bytes bytes (super_of bytes)
 unfolding super_of
 super-reads bytes are = reads-spelled fits_super is_super super_bytes super_fields bytes (fits-fields bytes are) super-back
 

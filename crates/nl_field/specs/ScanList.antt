@@ -3,7 +3,7 @@ use Rattle.std.specs.Prelude.{◌≡◌, ℕ, nat_le, nat_lt, Bool, not, ◌&&�
 use Rattle.nl_field.specs.Page.{Image}
 use Rattle.nl_field.specs.Medium.{Readable, shape_of_image, first_physical, is_virtual_rec, is_physical_rec, readable_pages, virtual_pages, physical_pages}
 use Rattle.nl_field.specs.Scan.{agrees_among, agrees_below, zeros_from}
-use Rattle.nl_field.specs.Space.{PageView, holds_among, is_among, is_lost, owns_name, virtual_spare_among, virtual_spare, physical_spare_among, physical_spare, place_among, place_outside}
+use Rattle.nl_field.specs.Space.{PageView, holds_among, is_among, is_stale_pointer, owns_name, virtual_spare_among, virtual_spare, physical_spare_among, physical_spare, place_among, place_outside}
 use Rattle.nl_field.specs.declared.pointer.Pointer.{Pointer}
 use Rattle.nl_field.specs.declared.seen.Seen.{Seen}
 use Rattle.nl_field.specs.declared.shape.Shape.{Shape}
@@ -60,15 +60,15 @@ unfoldable pub place_seen : Shape → List Seen → Option ℕ → Pointer → O
 place_seen shape seen spare p = place_among on_list shape.pages (physical_seen shape seen) spare (holds_seen shape seen p.name p.stamp) p
 
 -- The list of an image tells what the image has.
-pub record ListTells (image : Image) : Type 0 where
+pub record ListIsOfImage (image : Image) : Type 0 where
   pub each : seen_in image ≡ map (seen_of image) (readable_pages image)
   pub virtual : virtual_seen (shape_of_image image) (seen_in image) ≡ map (seen_of image) (virtual_pages image)
   pub physical : physical_seen (shape_of_image image) (seen_in image) ≡ map (seen_of image) (physical_pages image)
-  pub lost : (p : Pointer) → is_lost_seen (shape_of_image image) (seen_in image) p ≡ is_lost image p
+  pub lost : (p : Pointer) → is_lost_seen (shape_of_image image) (seen_in image) p ≡ is_stale_pointer image p
   pub owns : (p : Pointer) → owns_seen (shape_of_image image) (seen_in image) p ≡ owns_name image p
   pub virtual_spare : virtual_spare_seen (shape_of_image image) (seen_in image) ≡ virtual_spare image
   pub physical_spare : (stamps : List ℕ) → physical_spare_seen (shape_of_image image) (seen_in image) stamps ≡ physical_spare image stamps
   pub place : (spare : Option ℕ) (p : Pointer) → place_seen (shape_of_image image) (seen_in image) spare p ≡ place_outside image spare p
 
-abbrev pub ListsTell : Type 0
-ListsTell = (image : Image) → ListTells image
+abbrev pub ListsAreOfImages : Type 0
+ListsAreOfImages = (image : Image) → ListIsOfImage image

@@ -30,8 +30,8 @@ is_among view pages page = list_any (λ r. view.page r == page) pages
 unfoldable pub holds_stamp : Image → ℕ → ℕ → Bool
 holds_stamp image page stamp = holds_among on_image (physical_pages image) page stamp
 
-abbrev pub is_lost : Image → Pointer → Bool
-is_lost image p = not (holds_stamp image p.name p.stamp)
+abbrev pub is_stale_pointer : Image → Pointer → Bool
+is_stale_pointer image p = not (holds_stamp image p.name p.stamp)
 
 -- the named page has the stamp, or is no readable physical page
 abbrev pub owns_name : Image → Pointer → Bool

@@ -49,7 +49,7 @@ spelled_by has_spelling bytes_of value bytes = if has_spelling value && bytes_eq
 
 -- What a reader of these bytes answers: the value that they spell, or None, and then no value whose numbers fit their
 -- fields and which has a spelling has these bytes.
-abbrev pub Reads : {R : Type 0} → (R → Bool) → (R → Bool) → (R → List ℕ) → List ℕ → Option R → Type 0
-Reads {R = R} fits has_spelling bytes_of bytes None =
+abbrev pub Decodes : {R : Type 0} → (R → Bool) → (R → Bool) → (R → List ℕ) → List ℕ → Option R → Type 0
+Decodes {R = R} fits has_spelling bytes_of bytes None =
     (value : R) → IsTrue (fits value) → IsTrue (has_spelling value) → bytes_of value ≡ bytes → ⊥
-Reads fits has_spelling bytes_of bytes (Some value) = IsTrue (fits value) × IsTrue (has_spelling value) × (bytes_of value ≡ bytes)
+Decodes fits has_spelling bytes_of bytes (Some value) = IsTrue (fits value) × IsTrue (has_spelling value) × (bytes_of value ≡ bytes)

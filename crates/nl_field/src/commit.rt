@@ -1,6 +1,6 @@
 //! The record on the commit page of a transaction: written to a page, and read from one.
 ghost use Rattle.std.specs.Prelude.{◌≡◌, IsTrue, Some, length, bytes_eq};
-ghost use Rattle.nl_field.specs.Spelling.{Reads};
+ghost use Rattle.nl_field.specs.Spelling.{Decodes};
 ghost use Rattle.nl_field.specs.Journal.{commit_head, commit_bytes, commit_of, commit_fields, is_commit, fits_commit};
 
 use crate::PageBuf;
@@ -17,7 +17,7 @@ impl CommitRec {
     pub fn of(page: &PageBuf, at: u32) -> Option<CommitRec>
         requires { at ≡ 0 }
         ensures value { result ≡ commit_of page.now.main }
-        ensures reads { Reads fits_commit is_commit commit_bytes page.now.main result }
+        ensures reads { Decodes fits_commit is_commit commit_bytes page.now.main result }
     {
         read(page.main())
     }
@@ -59,7 +59,7 @@ impl CommitRec {
 fn read(main: &[u8]) -> Option<CommitRec>
     requires { length main.now ≡ 4096 }
     ensures value { result ≡ commit_of main.now }
-    ensures reads { Reads fits_commit is_commit commit_bytes main.now result }
+    ensures reads { Decodes fits_commit is_commit commit_bytes main.now result }
 {
     decode(main)
 }

@@ -1,6 +1,6 @@
 //! The record of a directory entry: written to a page, and read from one.
 ghost use Rattle.std.specs.Prelude.{◌≡◌, ◌↔◌, ◌≤◌, ◌+◌, ◌++◌, IsTrue, IsSome, IfSome, Some, length, take, drop, bytes_eq};
-ghost use Rattle.nl_field.specs.Spelling.{Reads};
+ghost use Rattle.nl_field.specs.Spelling.{Decodes};
 ghost use Rattle.nl_field.specs.EntryRecord.{entry_bytes, entry_of, entry_fields, is_entry, fits_entry};
 
 use crate::limits::MAX_NAME;
@@ -20,7 +20,7 @@ impl EntryRec {
     pub fn of(page: &PageBuf, at: u32) -> Option<EntryRec>
         requires { at + 64 ≤ 4096 }
         ensures value { result ≡ entry_of (take 64 (drop at page.now.main)) }
-        ensures reads { Reads fits_entry is_entry entry_bytes (take 64 (drop at page.now.main)) result }
+        ensures reads { Decodes fits_entry is_entry entry_bytes (take 64 (drop at page.now.main)) result }
     {
         let at = at as usize;
         read(&page.main()[at..at + 64])
@@ -65,7 +65,7 @@ impl EntryRec {
 fn read(bytes: &[u8]) -> Option<EntryRec>
     requires { length bytes.now ≡ 64 }
     ensures value { result ≡ entry_of bytes.now }
-    ensures reads { Reads fits_entry is_entry entry_bytes bytes.now result }
+    ensures reads { Decodes fits_entry is_entry entry_bytes bytes.now result }
 {
     decode(bytes)
 }

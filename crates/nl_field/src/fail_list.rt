@@ -1,6 +1,6 @@
 //! Which calls are to fail, by number.
 ghost use Rattle.std.specs.Prelude.{◌≡◌, ◌<◌, ◌↔◌, [], ◌∷◌, ◌++◌, All, Contains, length, slice_get, Some, IsTrue, OnOk, OnErr};
-ghost use Rattle.nl_field.specs.FailNumbers.{AreRising};
+ghost use Rattle.nl_field.specs.FailNumbers.{AreFailNumbers};
 
 use crate::Memory;
 use std::alloc::Global;
@@ -14,13 +14,13 @@ pub struct FailList {
 
 impl Model for FailList {
     ghost use Rattle.std.specs.Prelude.{List, ℕ};
-    ghost use Rattle.nl_field.specs.FailNumbers.{AreRising};
+    ghost use Rattle.nl_field.specs.FailNumbers.{AreFailNumbers};
 
     ghost Value = { List ℕ };
 
     ghost view = { λ f. f.numbers.items };
 
-    ghost invariant = { λ f. AreRising f.numbers.items };
+    ghost invariant = { λ f. AreFailNumbers f.numbers.items };
 }
 
 impl FailList {
@@ -47,7 +47,7 @@ impl FailList {
     /// How many numbers it has. They rise, from 1.
     pub fn len(&self) -> usize
         ensures count { result ≡ length self.now }
-        ensures rising { AreRising self.now }
+        ensures rising { AreFailNumbers self.now }
     {
         self.numbers.len()
     }

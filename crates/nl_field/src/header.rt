@@ -1,7 +1,7 @@
 //! The record on the header page of a transaction: written to a page, and read from one.
 ghost use Rattle.std.specs.Prelude.{◌≡◌, ◌≤◌, ◌+◌, ◌*◌, IsTrue, Some, length, ◌<◌, ◌==◌, ◌&&◌, ◌||◌, take, drop, slice_index, bytes_eq, nat_le, nat_lt};
 ghost use Rattle.std.specs.List.{list_all};
-ghost use Rattle.nl_field.specs.Spelling.{Reads, u32s};
+ghost use Rattle.nl_field.specs.Spelling.{Decodes, u32s};
 ghost use Rattle.nl_field.specs.Journal.{header_head, header_bytes, header_of, header_fields, is_header, fits_header, are_home_addresses};
 
 use crate::numbers::{is_padded, put_u32, put_u32s, put_u64, u32_from, u64_from};
@@ -19,7 +19,7 @@ impl HeaderRec {
     pub fn of(page: &PageBuf, at: u32) -> Option<HeaderRec>
         requires { at ≡ 0 }
         ensures value { result ≡ header_of page.now.main }
-        ensures reads { Reads fits_header is_header header_bytes page.now.main result }
+        ensures reads { Decodes fits_header is_header header_bytes page.now.main result }
     {
         read(page.main())
     }
@@ -73,7 +73,7 @@ impl HeaderRec {
 fn read(main: &[u8]) -> Option<HeaderRec>
     requires { length main.now ≡ 4096 }
     ensures value { result ≡ header_of main.now }
-    ensures reads { Reads fits_header is_header header_bytes main.now result }
+    ensures reads { Decodes fits_header is_header header_bytes main.now result }
 {
     decode(main)
 }

@@ -2,7 +2,7 @@
 ghost use Rattle.std.specs.Prelude.{◌≡◌, ◌≤◌, ◌+◌, ◌++◌, ◌==◌, not, IsTrue, Some, length, take, drop, bytes_eq};
 ghost use Rattle.std.specs.List.{list_all};
 ghost use Rattle.nl_field.specs.Bytes.{all_zero};
-ghost use Rattle.nl_field.specs.Spelling.{Reads};
+ghost use Rattle.nl_field.specs.Spelling.{Decodes};
 ghost use Rattle.nl_field.specs.Pointers.{is_pointer, is_none_pointer};
 ghost use Rattle.nl_field.specs.Inode.{inode_bytes, inode_of, inode_fields, is_inode, is_inode_of_kind, fits_inode, are_filled, kind_byte, kind_of};
 
@@ -38,7 +38,7 @@ impl InodeRec {
     pub fn of(page: &PageBuf, at: u32) -> Option<InodeRec>
         requires { at + 256 ≤ 4096 }
         ensures value { result ≡ inode_of (take 256 (drop at page.now.main)) }
-        ensures reads { Reads fits_inode is_inode inode_bytes (take 256 (drop at page.now.main)) result }
+        ensures reads { Decodes fits_inode is_inode inode_bytes (take 256 (drop at page.now.main)) result }
     {
         let at = at as usize;
         read(&page.main()[at..at + 256])
@@ -101,7 +101,7 @@ impl InodeRec {
 fn read(bytes: &[u8]) -> Option<InodeRec>
     requires { length bytes.now ≡ 256 }
     ensures value { result ≡ inode_of bytes.now }
-    ensures reads { Reads fits_inode is_inode inode_bytes bytes.now result }
+    ensures reads { Decodes fits_inode is_inode inode_bytes bytes.now result }
 {
     decode(bytes)
 }

@@ -1,5 +1,5 @@
 //! Laws of the spellings. Each function stands for the law that its contract names.
-ghost use Rattle.nl_field.specs.ScanList.{ListsTell};
+ghost use Rattle.nl_field.specs.ScanList.{ListsAreOfImages};
 ghost use Rattle.nl_field.specs.Virtual.{MapIsImage};
 ghost use Rattle.std.specs.Prelude.{◌≡◌, ◌≤◌, length, take};
 ghost use Rattle.byteorder.specs.Endian.{little_bytes, little_number};
@@ -14,7 +14,7 @@ pub fn written_back(bytes: &[u8], width: usize)
 /// The list that a scan of an image gives tells its spare blocks, which pointers are lost, which own their names, and the place of
 /// each.
 pub fn lists_tell()
-    ensures { ListsTell }
+    ensures { ListsAreOfImages }
 {}
 
 /// The bytes of a device's addresses are those of an image with its values.

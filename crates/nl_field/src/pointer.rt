@@ -1,6 +1,6 @@
 //! Pointers to pages under names: written to a page, and read from one.
 ghost use Rattle.std.specs.Prelude.{◌≡◌, ◌≤◌, ◌+◌, ◌++◌, IsTrue, Some, length, take, drop, bytes_eq};
-ghost use Rattle.nl_field.specs.Spelling.{Reads};
+ghost use Rattle.nl_field.specs.Spelling.{Decodes};
 ghost use Rattle.nl_field.specs.Pointers.{pointer_bytes, pointer_of, is_pointer, is_none_pointer, fits_pointer};
 
 use crate::PageBuf;
@@ -28,7 +28,7 @@ impl Pointer {
     pub fn of(page: &PageBuf, at: u32) -> Option<Pointer>
         requires { at + 16 ≤ 4096 }
         ensures value { result ≡ pointer_of (take 16 (drop at page.now.main)) }
-        ensures reads { Reads fits_pointer is_pointer pointer_bytes (take 16 (drop at page.now.main)) result }
+        ensures reads { Decodes fits_pointer is_pointer pointer_bytes (take 16 (drop at page.now.main)) result }
     {
         let at = at as usize;
         read(&page.main()[at..at + 16])
@@ -81,7 +81,7 @@ impl Pointer {
 fn read(bytes: &[u8]) -> Option<Pointer>
     requires { length bytes.now ≡ 16 }
     ensures value { result ≡ pointer_of bytes.now }
-    ensures reads { Reads fits_pointer is_pointer pointer_bytes bytes.now result }
+    ensures reads { Decodes fits_pointer is_pointer pointer_bytes bytes.now result }
 {
     decode(bytes)
 }

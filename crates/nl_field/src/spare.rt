@@ -1,6 +1,6 @@
 //! The record in the spare bytes of a page: written to a page, and read from one.
 ghost use Rattle.std.specs.Prelude.{◌≡◌, IsTrue, Some};
-ghost use Rattle.nl_field.specs.Spelling.{Reads};
+ghost use Rattle.nl_field.specs.Spelling.{Decodes};
 ghost use Rattle.nl_field.specs.declared.spare.SpareRec.TheVariants.{Virtual, Physical};
 ghost use Rattle.nl_field.specs.SpareRecord.{spare_bytes, spare_rec_of, spare_fields, is_spare, fits_spare};
 
@@ -18,7 +18,7 @@ pub enum SpareRec {
 /// The record that 64 spare bytes spell, None exactly where they spell none.
 pub fn spare_of(bytes: &[u8; 64]) -> Option<SpareRec>
     ensures value { result ≡ spare_rec_of bytes.now }
-    ensures reads { Reads fits_spare is_spare spare_bytes bytes.now result }
+    ensures reads { Decodes fits_spare is_spare spare_bytes bytes.now result }
 {
     read(bytes)
 }

@@ -1,6 +1,6 @@
 //! The record on the super page: written to a page, and read from one.
 ghost use Rattle.std.specs.Prelude.{◌≡◌, IsTrue, Some, length, bytes_eq};
-ghost use Rattle.nl_field.specs.Spelling.{Reads};
+ghost use Rattle.nl_field.specs.Spelling.{Decodes};
 ghost use Rattle.nl_field.specs.SuperPage.{super_head, super_bytes, super_of, super_fields, is_super, fits_super};
 
 use crate::PageBuf;
@@ -21,7 +21,7 @@ impl SuperRec {
     pub fn of(page: &PageBuf, at: u32) -> Option<SuperRec>
         requires { at ≡ 0 }
         ensures value { result ≡ super_of page.now.main }
-        ensures reads { Reads fits_super is_super super_bytes page.now.main result }
+        ensures reads { Decodes fits_super is_super super_bytes page.now.main result }
     {
         read(page.main())
     }
@@ -74,7 +74,7 @@ impl SuperRec {
 fn read(main: &[u8]) -> Option<SuperRec>
     requires { length main.now ≡ 4096 }
     ensures value { result ≡ super_of main.now }
-    ensures reads { Reads fits_super is_super super_bytes main.now result }
+    ensures reads { Decodes fits_super is_super super_bytes main.now result }
 {
     decode(main)
 }

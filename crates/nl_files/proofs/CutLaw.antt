@@ -13,7 +13,7 @@ use Rattle.nl_meta.specs.Nodes.{inode_at, slots_of}
 use Rattle.nl_meta.specs.Pages.{Pages}
 use Rattle.nl_meta.specs.Running.{running_over}
 use Rattle.nl_meta.proofs.Lists.{none_some, some_in}
-use Rattle.nl_inode.specs.FreeLaws.{PoolIsFree, Uses}
+use Rattle.nl_inode.specs.FreeLaws.{PoolIsFree, UsesAddress}
 use Rattle.nl_inode.specs.Nodes.{Spaces, is_free_address}
 use Rattle.nl_indirect.specs.Ranges.{address_of, range_of}
 use Rattle.nl_indirect.proofs.LawProofs.{at-slot, file_of_node}
@@ -117,7 +117,7 @@ module _ (shape : Shape) (device : VirtualMap) (n size : ℕ) (partial : Option 
     lost-had : (l : LosesAddress (slots_of was) (slots_of is) a) → AddressAt shape one n l.at a
     lost-had l = had l.at a l.not_zero l.had
 
-    free-unused : is_free_address t a ≡ true → Uses shape after a → ⊥
+    free-unused : is_free_address t a ≡ true → UsesAddress shape after a → ⊥
     free-unused f (k, slot, x) = by (cases_eq k n)
       where
         clash : (AddressAt shape one k slot a) → (Lost → ⊥) → ⊥
@@ -131,7 +131,7 @@ module _ (shape : Shape) (device : VirtualMap) (n size : ℕ) (partial : Option 
             clash (subst (λ (m : ℕ). AddressAt shape one m slot a) (sym e) u)
             (λ l. x.not_zero (sym (its-is slot a y) ∙ ap (λ (r : ℕ). slice_index (slots_of is) r) (at.right.one_use n slot n l.at a u (lost-had l)).1 ∙ l.gone))
 
-    unused-free : (Uses shape after a → ⊥) → is_free_address t a ≡ true
+    unused-free : (UsesAddress shape after a → ⊥) → is_free_address t a ≡ true
     unused-free none = by (cases_Bool (is_free_address t a))
       where
         by : (is_free_address t a ≡ true) ⊎ (is_free_address t a ≡ false) → is_free_address t a ≡ true
@@ -141,7 +141,7 @@ module _ (shape : Shape) (device : VirtualMap) (n size : ℕ) (partial : Option 
             kept : Lost → ⊥
             kept l = both_ways (is_free_address t a) taken (at.cuts.given.given a l)
 
-            unused : Uses shape one a → ⊥
+            unused : UsesAddress shape one a → ⊥
             unused (k, slot, x) = at-node (cases_eq k n)
               where
                 in-its : AddressAt shape one n slot a → (slice_index (slots_of is) slot ≡ slice_index (slots_of was) slot) ⊎ (slice_index (slots_of is) slot ≡ 0) → ⊥

@@ -16,18 +16,18 @@ use Rattle.nl_meta.specs.Consistent.{AddressAt, IsNode}
 use Rattle.nl_meta.specs.Pages.{Pages, page_of}
 use Rattle.nl_meta.specs.Running.{CleanIsStored, running_over}
 use Rattle.nl_meta.specs.SlotLaws.{with_slot}
-use Rattle.nl_meta.specs.Steps.{ChangesPages}
+use Rattle.nl_meta.specs.Steps.{ChangesRunningPages}
 use Rattle.nl_meta.proofs.PageProofs.{both}
 use Rattle.nl_meta.proofs.RunningProofs.{running_map}
 use Rattle.nl_meta_running.specs.FileLaws.{IsRight}
-use Rattle.nl_meta_running.specs.Running.{IsNeeded, Runs, running_on, stored_on}
+use Rattle.nl_meta_running.specs.Running.{IsNeeded, RunningIsRight, running_on, stored_on}
 use Rattle.nl_meta_running.proofs.Holds.{bounds-of}
 use Rattle.nl_files.specs.CutRuns.{CutIsWritten, CutRuns, CutsOn, RunsCut, WritesCut}
 use Rattle.nl_files.specs.Cutting.{Rewrites}
 use Rattle.nl_files.proofs.CutWritten.{changed, cut-written, had-before, there-half}
 use Rattle.nl_files.proofs.InstalledOn.{over-changed, over-some, over-twice, some-below}
 
-module _ {D : Type 0} (g : Ghosts D) (s : D) (n size : ℕ) (partial : Option Pointer) (was is : InodeRec) (old new written : Pages) (f t : Spaces) (volume : IsVolumeShape (g.shape s)) (runs : Runs g s old)
+module _ {D : Type 0} (g : Ghosts D) (s : D) (n size : ℕ) (partial : Option Pointer) (was is : InodeRec) (old new written : Pages) (f t : Spaces) (volume : IsVolumeShape (g.shape s)) (runs : RunningIsRight g s old)
     (on : CutsOn g s n size partial was is old new written f t) where
   abbrev shape : Shape
   shape = g.shape s
@@ -52,7 +52,7 @@ module _ {D : Type 0} (g : Ghosts D) (s : D) (n size : ℕ) (partial : Option Po
     puts = on.puts;
   }
 
-  pages : ChangesPages old written
+  pages : ChangesRunningPages old written
   pages = both old new written (changed shape map n size partial was is old new written f t at) (put_changes new written n is on.puts)
 
   after : running_over map written ≡ running_on g s written

@@ -16,13 +16,13 @@ use Rattle.nl_meta.specs.Steps.{with_dirty}
 use Rattle.nl_inode.specs.Nodes.{Spaces}
 use Rattle.nl_indirect.specs.Ranges.{HasPointers, HasRange, IsFileRecord, address_of, range_of, slot_of}
 use Rattle.nl_indirect.specs.Storing.{Stores}
-use Rattle.nl_indirect.specs.Truncating.{TakesFrom, Truncates}
+use Rattle.nl_indirect.specs.Truncating.{TakesFrom, TruncatesPointers}
 use Rattle.nl_indirect.specs.declared.answer.Stored.TheVariants.{Done}
 use Rattle.nl_indirect.proofs.Cases.{to-some}
 use Rattle.nl_indirect.proofs.Fresh.{dirty_has_room, one-more, with-twice}
 use Rattle.nl_indirect.proofs.Pointing.{address-node, address-range, in-range, no-page, runs}
 use Rattle.nl_indirect.proofs.Records.{file-parts, file-spelled}
-use Rattle.nl_files.specs.Cutting.{Cuts, CutsPointers, GivesBack, IsPartial, Rewrites}
+use Rattle.nl_files.specs.Cutting.{Cuts, CutsPointers, GivesBackAddresses, IsPartial, Rewrites}
 
 -- ---- where the cut falls
 
@@ -163,7 +163,7 @@ range-then size partial was mid old next places slotted far =
     let e = same-range size mid slotted in
     subst (λ (a : ℕ). HasPointers (page_of next) a) (sym e) (places.range (λ z. far (e ∙ z)))
 
-module _ (size : ℕ) (partial : Option Pointer) (was mid is : InodeRec) (old next new : Pages) (places : Places size partial was mid old next) (cuts : Truncates (div_ceil size 4096) mid is next new) where
+module _ (size : ℕ) (partial : Option Pointer) (was mid is : InodeRec) (old next new : Pages) (places : Places size partial was mid old next) (cuts : TruncatesPointers (div_ceil size 4096) mid is next new) where
   abbrev from : ℕ
   from = div_ceil size 4096
 
@@ -280,7 +280,7 @@ module _ (size : ℕ) (partial : Option Pointer) (was mid is : InodeRec) (old ne
       pages = pages;
     }
 
-  pub cuts-file : (s t : Spaces) → size ≤ 16809984 → GivesBack (slots_of was) (slots_of is) s t → Cuts size partial was (with-size is size) old new s t
+  pub cuts-file : (s t : Spaces) → size ≤ 16809984 → GivesBackAddresses (slots_of was) (slots_of is) s t → Cuts size partial was (with-size is size) old new s t
   cuts-file s t most gives = record {
     pointers = cuts-pointers;
     clean = λ device clean. cuts.clean device (places.clean device clean);

@@ -22,7 +22,7 @@ use Rattle.nl_meta.specs.Consistent.{AddressAt, GoodAddress, IsNode, NamesPhysic
 use Rattle.nl_meta.specs.Nodes.{inode_at, is_physical_name, pointer_at, pointer_in_page, slots_of}
 use Rattle.nl_meta.specs.Pages.{Pages, page_of}
 use Rattle.nl_meta.specs.Running.{running_over}
-use Rattle.nl_meta.specs.Steps.{ChangesPages}
+use Rattle.nl_meta.specs.Steps.{ChangesRunningPages}
 use Rattle.nl_meta.proofs.Lists.{some_in}
 use Rattle.nl_meta_running.specs.FileLaws.{StaysRight}
 use Rattle.nl_meta_running.proofs.FileChanges.{one_file_changes}
@@ -53,7 +53,7 @@ module _ (shape : Shape) (device : VirtualMap) (n size : ℕ) (partial : Option 
   cut : CutsPointers size partial was is one half
   cut = at.cuts.pointers device at.clean
 
-  pub changed : ChangesPages old new
+  pub changed : ChangesRunningPages old new
   changed = cutting_changes_pages size partial was is old new s t at.range at.cuts
 
   pub there-half : IsSome (page_of new (page_of_node n))

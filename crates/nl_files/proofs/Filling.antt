@@ -20,7 +20,7 @@ use Rattle.nl_files.specs.declared.answer.FileAnswer.TheVariants as answer
 use Rattle.nl_files.proofs.Keeping.{keeps-then, pointer-then}
 use Rattle.nl_files.proofs.Owning.{own-then}
 use Rattle.nl_files.specs.Reading.{IsWanted, byte_at, file_page}
-use Rattle.nl_files.specs.Standing.{FileStands, KeepsRunning, LoadsOwn, running_map}
+use Rattle.nl_files.specs.Standing.{FileIsAtHand, KeepsRunning, LoadsOwn, running_map}
 
 -- the first bytes of the file from an offset on stand in the list
 pub record IsFilled {D : Type 0} (g : Ghosts D) (s t : D) (p q : Pages) (rec : InodeRec) (at count done : ℕ) (out : List ℕ) : Type 0 where
@@ -37,7 +37,7 @@ pub file-size : (rec : InodeRec) → IsFileRecord rec → rec.size ≤ 16809984
 file-size rec is = leb-true rec.size 16809984 (file-parts rec is).size
 
 -- a stamp that is wanted once pages were made resident was so before
-pub wanted-then : {D : Type 0} (g : Ghosts D) (s t : D) (rec : InodeRec) (p q : Pages) → OnlyReads g s t → KeepsRunning g s p q → FileStands g s rec p → (w : ℕ)
+pub wanted-then : {D : Type 0} (g : Ghosts D) (s t : D) (rec : InodeRec) (p q : Pages) → OnlyReads g s t → KeepsRunning g s p q → FileIsAtHand g s rec p → (w : ℕ)
     → IsWanted g t (running_map g t q) rec w → IsWanted g s (running_map g s p) rec w
 wanted-then g s t rec p q reads keeps stands w (inl x) = inl (record { at = x.at; not_zero = x.not_zero; stamp = sym (reads.medium.virtual.same_stamps (slice_index (slots_of rec) x.at)) ∙ x.stamp })
 wanted-then g s t rec p q reads keeps stands w (inr x) =
@@ -50,7 +50,7 @@ loses-by P Q each answer.Fault l = l
 loses-by P Q each (answer.Lost w f) l = (each w l.0, l.1)
 
 -- the bytes of a page are those that it had before
-pub page-then : {D : Type 0} (g : Ghosts D) (s t : D) (rec : InodeRec) (p q : Pages) → g.tells → OnlyReads g s t → KeepsRunning g s p q → FileStands g s rec p → (i : ℕ)
+pub page-then : {D : Type 0} (g : Ghosts D) (s t : D) (rec : InodeRec) (p q : Pages) → g.tells → OnlyReads g s t → KeepsRunning g s p q → FileIsAtHand g s rec p → (i : ℕ)
     → file_page g t (running_map g t q) rec i ≡ file_page g s (running_map g s p) rec i
 page-then {D = D} g s t rec p q tells reads keeps stands i =
     ap (λ (at : Pointer). cond (is_none_pointer at) (zeros 4096) (g.bytes t (place_of (g.names t) at))) (pointer-then g s t rec p q reads keeps stands i)
@@ -78,7 +78,7 @@ filled-on page at done count main out new some within is before same copied k be
         ∙ (λ i. slice_index (is i) (rest i))
         ∙ ap (λ n. slice_index (page n) ((at + k) % 4096)) quotient
 
-pub filled-then : {D : Type 0} (g : Ghosts D) (s t u : D) (p q r : Pages) (rec : InodeRec) (at size done count : ℕ) (main out new : List ℕ) → FileStands g s rec p
+pub filled-then : {D : Type 0} (g : Ghosts D) (s t u : D) (p q r : Pages) (rec : InodeRec) (at size done count : ℕ) (main out new : List ℕ) → FileIsAtHand g s rec p
     → IsFilled g s t p q rec at size done out → g.formed u → OnlyReads g t u → g.read_faults u ≡ g.read_faults t → KeepsRunning g t q r → LoadsOwn rec q r
     → (g.tells → main ≡ file_page g t (running_map g t q) rec ((at + done) / 4096))
     → 0 < count → done + count ≤ size → (at + done) % 4096 + count ≤ 4096 → length new ≡ size → ((k : ℕ) → k < done → slice_index new k ≡ slice_index out k)

@@ -3,7 +3,7 @@ use Rattle.std.proofs.Common.{◌≡◌, ◌≢◌, ℕ, ◌+◌, ◌-◌, ◌�
 use Rattle.std.proofs.lemmas.Bool.{cases_eq, cases_lt, le-leb, lt-leb}
 use Rattle.nl_inode.specs.Free.{is_free}
 use Rattle.nl_inode.specs.Nodes.{AddressBecomes, Spaces, is_free_address}
-use Rattle.nl_files.specs.Cutting.{GivesBack, LosesAddress}
+use Rattle.nl_files.specs.Cutting.{GivesBackAddresses, LosesAddress}
 
 -- those of the first places
 pub record GivesUpTo (n : ℕ) (was is : List ℕ) (s t : Spaces) : Type 0 where
@@ -72,7 +72,7 @@ past [] r h = refl
 past (x ∷ xs) zero h = absurd (omega (arith, h))
 past (x ∷ xs) (suc r) h = past xs r (omega (arith, h))
 
-pub gives-all : (was is : List ℕ) (s t : Spaces) → length was ≡ 16 → GivesUpTo 16 was is s t → GivesBack was is s t
+pub gives-all : (was is : List ℕ) (s t : Spaces) → length was ≡ 16 → GivesUpTo 16 was is s t → GivesBackAddresses was is s t
 gives-all was is s t len gives = record {
   nodes = gives.nodes;
   first = gives.first;

@@ -8,14 +8,14 @@ use Rattle.nl_field.specs.Pointers.{no_pointer}
 use Rattle.nl_field.specs.declared.inode.InodeRec.{InodeRec}
 use Rattle.nl_field.specs.declared.pointer.Pointer.{Pointer}
 use Rattle.nl_field.specs.declared.shape.Shape.{Shape}
-use Rattle.nl_inode.specs.FreeLaws.{NodesAreFree, PoolIsFree, Uses}
+use Rattle.nl_inode.specs.FreeLaws.{NodesAreFree, PoolIsFree, UsesAddress}
 use Rattle.nl_inode.specs.Nodes.{AddressBecomes, IsLeastAddress, PutsNode, Spaces, is_free_node, page_of_node}
 use Rattle.nl_inode.proofs.FreeProofs.{free_is_unused}
 use Rattle.nl_inode.proofs.MarkTree.{set-below}
 use Rattle.nl_inode.proofs.PageProofs.{put_changes}
 use Rattle.nl_indirect.specs.FileLaws.{AddressesGood, NodeLaws, StoresOver}
 use Rattle.nl_indirect.specs.Ranges.{address_of, range_of}
-use Rattle.nl_indirect.specs.Storing.{Begins, StoresPointer}
+use Rattle.nl_indirect.specs.Storing.{BeginsRange, StoresPointer}
 use Rattle.nl_indirect.specs.declared.answer.Stored.TheVariants.{Done}
 use Rattle.nl_indirect.proofs.LawProofs.{at-slot, file_of_node, stored_file}
 use Rattle.nl_indirect.proofs.OtherNodes.{pointer-same}
@@ -28,12 +28,12 @@ use Rattle.nl_meta.specs.Pages.{Pages, page_of}
 use Rattle.nl_meta.specs.PointerLists.{ChangesPointer, tagged_by}
 use Rattle.nl_meta.specs.Running.{or_stored, running_over}
 use Rattle.nl_meta.specs.SlotLaws.{ChangesSlot}
-use Rattle.nl_meta.specs.Steps.{ChangesPages}
+use Rattle.nl_meta.specs.Steps.{ChangesRunningPages}
 use Rattle.nl_meta.proofs.Lists.{some_in}
 use Rattle.nl_meta_running.specs.FileLaws.{StaysRight}
 use Rattle.nl_meta_running.proofs.FileChanges.{one_file_changes}
 use Rattle.nl_files.specs.InstallLaws.{FileIsInstalled, InstallsAt, OneFileIsInstalled}
-use Rattle.nl_files.specs.Installing.{Takes}
+use Rattle.nl_files.specs.Installing.{TakesLeastAddress}
 use Rattle.nl_files.proofs.OneFile.{OneFile, file-changes, in-pool, is-used, its, its-on, its-was, other-is, other-was, same-at, same-node, same-of}
 use Rattle.nl_files.proofs.PageProofs.{installing_changes_pages}
 
@@ -103,7 +103,7 @@ module _ (shape : Shape) (device : VirtualMap) (n index : ℕ) (to : Pointer) (s
   stored : StoresPointer index to was is one half
   stored = at.installs.stores.pointers device at.clean
 
-  pub changed : ChangesPages old new
+  pub changed : ChangesRunningPages old new
   changed = installing_changes_pages index to was is old new s t at.range (let e = at.free.first in omega (arith, e)) at.installs
 
   pub there-half : IsSome (page_of new (page_of_node n))
@@ -111,7 +111,7 @@ module _ (shape : Shape) (device : VirtualMap) (n index : ℕ) (to : Pointer) (s
 
   -- a new page is one that no node has
   fresh-free : (a : ℕ) → fresh ≡ Some a → IsLeastAddress a s × AddressBecomes a false s t
-  fresh-free a e = subst (λ (o : Option ℕ). Takes o s t) e at.installs.taken
+  fresh-free a e = subst (λ (o : Option ℕ). TakesLeastAddress o s t) e at.installs.taken
 
   fresh-low : (a : ℕ) → fresh ≡ Some a → s.first ≤ a
   fresh-low a e = leb-true s.first a (and_parts (nat_le s.first a) _ (fresh-free a e).0.free_itself).0
@@ -125,10 +125,10 @@ module _ (shape : Shape) (device : VirtualMap) (n index : ℕ) (to : Pointer) (s
       let v = at.bounds.addresses in
       omega (arith, low, high, f, c, v)
 
-  fresh-unused : (a : ℕ) → fresh ≡ Some a → Uses shape one a → ⊥
+  fresh-unused : (a : ℕ) → fresh ≡ Some a → UsesAddress shape one a → ⊥
   fresh-unused a e = (at.free.each a (fresh-low a e) (fresh-high a e)).0 (fresh-free a e).0.free_itself
 
-  begins : (a : ℕ) → fresh ≡ Some a → Begins was index (Some to)
+  begins : (a : ℕ) → fresh ≡ Some a → BeginsRange was index (Some to)
   begins a e = at.installs.begins.0 (ap is_some e)
 
   over : StoresOver shape device index (Some to) fresh was is old new Done
@@ -254,7 +254,7 @@ module _ (shape : Shape) (device : VirtualMap) (n index : ℕ) (to : Pointer) (s
       same : (k : ℕ) → is_free_node t k ≡ is_free_node s k
       same k = by fresh at.installs.taken
         where
-          by : (o : Option ℕ) → Takes o s t → is_free_node t k ≡ is_free_node s k
+          by : (o : Option ℕ) → TakesLeastAddress o s t → is_free_node t k ≡ is_free_node s k
           by None e = ap (λ (x : Spaces). is_free_node x k) e
           by (Some a) e = ap (λ (xs : List Bool). get_or xs k false) e.1.nodes
 
@@ -269,28 +269,28 @@ module _ (shape : Shape) (device : VirtualMap) (n index : ℕ) (to : Pointer) (s
       )
 
   -- an address but the new one is used as before
-  used-on : (b : ℕ) → Uses shape one b → Uses shape two b
+  used-on : (b : ℕ) → UsesAddress shape one b → UsesAddress shape two b
   used-on b (k, slot, x) = by (cases_eq k n)
     where
-      own : AddressAt shape one n slot b → (slice_index (slots_of is) slot ≡ slice_index (slots_of was) slot) ⊎ ((a : ℕ) × (fresh ≡ Some a) × (slice_index (slots_of is) slot ≡ a) × (slot ≡ range_of index)) → Uses shape two b
+      own : AddressAt shape one n slot b → (slice_index (slots_of is) slot ≡ slice_index (slots_of was) slot) ⊎ ((a : ℕ) × (fresh ≡ Some a) × (slice_index (slots_of is) slot ≡ a) × (slot ≡ range_of index)) → UsesAddress shape two b
       own y (inl same) = (n, slot, its-on shape n index was put one half two file slot b y.not_zero (same ∙ its-was shape n index was put one half two file slot b y))
       own y (inr (a, f, e, r)) =
           let g = begins a f in
           absurd (y.not_zero (sym (its-was shape n index was put one half two file slot b y) ∙ ap (λ (j : ℕ). slice_index (slots_of was) j) r ∙ sym (address-range was index g.in_range) ∙ g.no_page))
 
-      by : (k ≡ n) ⊎ (k ≢ n) → Uses shape two b
+      by : (k ≡ n) ⊎ (k ≢ n) → UsesAddress shape two b
       by (inr off) = (k, slot, other-is shape n index was put one half two file k slot b off x)
       by (inl e) = own (subst (λ (m : ℕ). AddressAt shape one m slot b) e x) (came slot)
 
-  pub used-from : (b : ℕ) → Uses shape two b → Uses shape one b ⊎ (fresh ≡ Some b)
+  pub used-from : (b : ℕ) → UsesAddress shape two b → UsesAddress shape one b ⊎ (fresh ≡ Some b)
   used-from b (k, slot, x) = by (cases_eq k n)
     where
       own : AddressAt shape two n slot b → (slice_index (slots_of is) slot ≡ slice_index (slots_of was) slot) ⊎ ((a : ℕ) × (fresh ≡ Some a) × (slice_index (slots_of is) slot ≡ a) × (slot ≡ range_of index))
-          → Uses shape one b ⊎ (fresh ≡ Some b)
+          → UsesAddress shape one b ⊎ (fresh ≡ Some b)
       own y (inl same) = inl (n, slot, had slot b y.not_zero (sym same ∙ its shape n index was put one half two file slot b y))
       own y (inr (a, f, e, r)) = inr (f ∙ ap (λ (v : ℕ). Some v) (sym e ∙ its shape n index was put one half two file slot b y))
 
-      by : (k ≡ n) ⊎ (k ≢ n) → Uses shape one b ⊎ (fresh ≡ Some b)
+      by : (k ≡ n) ⊎ (k ≢ n) → UsesAddress shape one b ⊎ (fresh ≡ Some b)
       by (inr off) = inl (k, slot, other-was shape n index was put one half two file k slot b off x)
       by (inl e) = own (subst (λ (m : ℕ). AddressAt shape two m slot b) e x) (came slot)
 
@@ -300,11 +300,11 @@ module _ (shape : Shape) (device : VirtualMap) (n index : ℕ) (to : Pointer) (s
       none-some : (b : ℕ) → None ≡ Some b → ⊥
       none-some b e = cc
 
-      from-none : fresh ≡ None → (b : ℕ) → Uses shape one b ⊎ (fresh ≡ Some b) → Uses shape one b
+      from-none : fresh ≡ None → (b : ℕ) → UsesAddress shape one b ⊎ (fresh ≡ Some b) → UsesAddress shape one b
       from-none e b (inl u) = u
       from-none e b (inr f) = absurd (none-some b (sym e ∙ f))
 
-      from-some : (a : ℕ) → fresh ≡ Some a → (b : ℕ) → b ≢ a → Uses shape one b ⊎ (fresh ≡ Some b) → Uses shape one b
+      from-some : (a : ℕ) → fresh ≡ Some a → (b : ℕ) → b ≢ a → UsesAddress shape one b ⊎ (fresh ≡ Some b) → UsesAddress shape one b
       from-some a e b off (inl u) = u
       from-some a e b off (inr f) = absurd (off (some_in b a (sym f ∙ e)))
 
@@ -322,7 +322,7 @@ module _ (shape : Shape) (device : VirtualMap) (n index : ℕ) (to : Pointer) (s
       at-range a e = sym (address-range is index (begins a e).in_range) ∙ at.installs.stores.answered ∙ ap (λ (o : Option ℕ). unwrap_or o (address_of was index)) e
 
       by : (o : Option ℕ) → fresh ≡ o → PoolIsFree shape two t
-      by None e = same (subst (λ (o : Option ℕ). Takes o s t) e at.installs.taken) e
+      by None e = same (subst (λ (o : Option ℕ). TakesLeastAddress o s t) e at.installs.taken) e
       by (Some a) e = (free_is_unused shape one two s t).address_taken a at.free (fresh-low a e) (fresh-free a e).1
           (λ b off. ((λ u. from-some a e b off (used-from b u)), used-on b))
           (n, range_of index, its-on shape n index was put one half two file (range_of index) a (far a e) (at-range a e))

@@ -9,7 +9,7 @@ use Rattle.nl_field.specs.declared.pointer.Pointer.{Pointer}
 use Rattle.nl_field.specs.declared.shape.Shape.{Shape}
 use Rattle.nl_iface.specs.Device.{IsVolumeShape}
 use Rattle.nl_iface.specs.declared.counts.Counts.{Ghosts}
-use Rattle.nl_inode.specs.FreeLaws.{PoolIsFree, Uses}
+use Rattle.nl_inode.specs.FreeLaws.{PoolIsFree, UsesAddress}
 use Rattle.nl_inode.specs.Nodes.{Spaces, page_of_node}
 use Rattle.nl_inode.proofs.PageProofs.{put_changes}
 use Rattle.nl_indirect.specs.Ranges.{address_of, slot_of}
@@ -18,11 +18,11 @@ use Rattle.nl_meta.specs.Committed.{VirtualMap}
 use Rattle.nl_meta.specs.Pages.{Pages, page_of}
 use Rattle.nl_meta.specs.Running.{CleanIsStored, or_stored, running_over}
 use Rattle.nl_meta.specs.SlotLaws.{with_slot}
-use Rattle.nl_meta.specs.Steps.{ChangesPages}
+use Rattle.nl_meta.specs.Steps.{ChangesRunningPages}
 use Rattle.nl_meta.proofs.PageProofs.{both}
 use Rattle.nl_meta.proofs.RunningProofs.{running_map}
 use Rattle.nl_meta_running.specs.FileLaws.{IsRight}
-use Rattle.nl_meta_running.specs.Running.{IsNeeded, Runs, running_on, stored_on}
+use Rattle.nl_meta_running.specs.Running.{IsNeeded, RunningIsRight, running_on, stored_on}
 use Rattle.nl_meta_running.proofs.Holds.{bounds-of}
 use Rattle.nl_files.specs.InstallLaws.{FileIsInstalled, InstallsAt}
 use Rattle.nl_files.specs.InstalledRuns.{InstalledRuns, InstallsOn, RunsInstalled}
@@ -60,7 +60,7 @@ some-below [] v h = absurd (both_ways false refl h)
 some-below (x ∷ xs) zero h = omega arith
 some-below (x ∷ xs) (suc v) h = let l = some-below xs v h in omega (arith, l)
 
-module _ {D : Type 0} (g : Ghosts D) (s : D) (n index : ℕ) (to : Pointer) (size : ℕ) (was is : InodeRec) (old new written : Pages) (f t : Spaces) (volume : IsVolumeShape (g.shape s)) (runs : Runs g s old)
+module _ {D : Type 0} (g : Ghosts D) (s : D) (n index : ℕ) (to : Pointer) (size : ℕ) (was is : InodeRec) (old new written : Pages) (f t : Spaces) (volume : IsVolumeShape (g.shape s)) (runs : RunningIsRight g s old)
     (on : InstallsOn g s n index to size was is old new written f t) where
   abbrev shape : Shape
   shape = g.shape s
@@ -95,7 +95,7 @@ module _ {D : Type 0} (g : Ghosts D) (s : D) (n index : ℕ) (to : Pointer) (siz
     puts = on.puts;
   }
 
-  pages : ChangesPages old written
+  pages : ChangesRunningPages old written
   pages = both old new written (changed shape map n index to size was is old new written f t at) (put_changes new written n put on.puts)
 
   after : running_over map written ≡ running_on g s written
@@ -139,10 +139,10 @@ module _ {D : Type 0} (g : Ghosts D) (s : D) (n index : ℕ) (to : Pointer) (siz
   absent : (v : ℕ) → IsNeeded shape (running_on g s written) v → page_of written v ≡ None → g.tells
   unfolding at
   absent v (inl e) gone = runs.absent v (inl e) (gone-before v gone)
-  absent v (inr u) gone = by (used-from shape map n index to size was is old new written f t at v (subst (λ (m : VirtualMap). Uses shape m v) (sym after) u))
+  absent v (inr u) gone = by (used-from shape map n index to size was is old new written f t at v (subst (λ (m : VirtualMap). UsesAddress shape m v) (sym after) u))
     where
-      by : Uses shape (running_over map old) v ⊎ (on.installs.fresh ≡ Some v) → g.tells
-      by (inl w) = runs.absent v (inr (subst (λ (m : VirtualMap). Uses shape m v) twice w)) (gone-before v gone)
+      by : UsesAddress shape (running_over map old) v ⊎ (on.installs.fresh ≡ Some v) → g.tells
+      by (inl w) = runs.absent v (inr (subst (λ (m : VirtualMap). UsesAddress shape m v) twice w)) (gone-before v gone)
       by (inr e) = absurd (both_ways (is_some (page_of written v)) (ap is_some gone) (fresh-there v e))
 
   clean : g.tells → CleanIsStored (stored_on g s) written

@@ -15,8 +15,8 @@ use Rattle.nl_iface.specs.declared.counts.Counts.{Ghosts}
 use Rattle.nl_meta.specs.Committed.{VirtualMap}
 use Rattle.nl_meta.specs.Nodes.{pointer_at, slots_of}
 use Rattle.nl_meta.specs.Pages.{Pages, page_of, touched}
-use Rattle.nl_meta.specs.Running.{CleanIsStored, RunsAlike, or_stored, running_over}
-use Rattle.nl_meta.specs.Steps.{Admits, Keeps, Misses}
+use Rattle.nl_meta.specs.Running.{CleanIsStored, SameRunning, or_stored, running_over}
+use Rattle.nl_meta.specs.Steps.{Admits, KeepsOtherPages, Misses}
 use Rattle.nl_meta.proofs.Lists.{map_none, none_some}
 use Rattle.nl_meta.proofs.RunningProofs.{running_map as laws_of}
 use Rattle.nl_inode.specs.Fetching.{Fetches}
@@ -24,7 +24,7 @@ use Rattle.nl_inode.specs.declared.answer.Fetch.{Fetch}
 use Rattle.nl_inode.specs.declared.answer.Fetch.TheVariants as fetch
 use Rattle.nl_indirect.specs.Ranges.{HasPointers, range_of, slot_of}
 use Rattle.nl_indirect.proofs.Pointing.{at-node, in-range, no-page, runs, same-page}
-use Rattle.nl_files.specs.Standing.{FileStands, IsAtHand, KeepsRunning, PointersLead, device_map, running_map, tag_of}
+use Rattle.nl_files.specs.Standing.{FileIsAtHand, IsAtHand, KeepsRunning, PointersLead, device_map, running_map, tag_of}
 
 is-ready : Fetch → Bool
 is-ready fetch.Ready = true
@@ -101,22 +101,22 @@ address-written shape map p v has gone none = by (cases_Bool (nat_lt v shape.vad
     by (inr e) = absurd (none_some has.bytes (sym (cond-false (nat_lt v shape.vaddrs) _ _ e) ∙ sym (absent (map_bytes shape map) p v gone) ∙ has.there))
 
 -- two devices with the same map
-runs-alike : (d e : VirtualMap) (p q : Pages) → ((u : ℕ) → e u ≡ d u) → RunsAlike e p q → RunsAlike d p q
+runs-alike : (d e : VirtualMap) (p q : Pages) → ((u : ℕ) → e u ≡ d u) → SameRunning e p q → SameRunning d p q
 runs-alike d e p q same alike = record {
   same = λ u. sym (over d e q u (same u)) ∙ alike.same u ∙ over d e p u (same u);
   clean = record { each = λ u bytes there clean frozen. sym (same u) ∙ alike.clean.each u bytes there clean frozen };
 }
 
-runs-then : (d : VirtualMap) (p q r : Pages) → RunsAlike d p q → RunsAlike d q r → RunsAlike d p r
+runs-then : (d : VirtualMap) (p q r : Pages) → SameRunning d p q → SameRunning d q r → SameRunning d p r
 runs-then d p q r k l = record { same = λ u. l.same u ∙ k.same u; clean = l.clean }
 
 -- a page that is resident is another one
-stays-but : (p q : Pages) (v : ℕ) → page_of p v ≡ None → Keeps v p q → (u : ℕ) → is_some (page_of p u) ≡ true → page_of q u ≡ page_of p u
+stays-but : (p q : Pages) (v : ℕ) → page_of p v ≡ None → KeepsOtherPages v p q → (u : ℕ) → is_some (page_of p u) ≡ true → page_of q u ≡ page_of p u
 stays-but p q v gone keeps u there = keeps.others u (λ e. both_ways false refl (ap is_some (sym gone) ∙ ap (λ (w : ℕ). is_some (page_of p w)) (sym e) ∙ there))
 
 -- what a fetch leaves of the other pages
-pub fetched-others : (tells : Type 0) (stored : Option (List ℕ)) (p q : Pages) (v : ℕ) → Fetches tells stored v p q → Keeps v p q
-fetched-others tells stored p q v (inl x) = subst (λ (r : Pages). Keeps v p r) (sym x.1) (record { count = refl; frozen = refl; recent = refl; others = λ u far. refl })
+pub fetched-others : (tells : Type 0) (stored : Option (List ℕ)) (p q : Pages) (v : ℕ) → Fetches tells stored v p q → KeepsOtherPages v p q
+fetched-others tells stored p q v (inl x) = subst (λ (r : Pages). KeepsOtherPages v p r) (sym x.1) (record { count = refl; frozen = refl; recent = refl; others = λ u far. refl })
 fetched-others tells stored p q v (inr x) = x.3.keeps
 
 module _ {D : Type 0} (g : Ghosts D) where
@@ -195,8 +195,8 @@ module _ {D : Type 0} (g : Ghosts D) where
     still a (inl tells) = inl tells
     still a (inr there) = inr (ap is_some (keeps.stays a there) ∙ there)
 
-    module _ (stands : FileStands g s rec p) where
-      pub stands-then : FileStands g t rec q
+    module _ (stands : FileIsAtHand g s rec p) where
+      pub stands-then : FileIsAtHand g t rec q
       stands-then = record {
         count = keeps.count ∙ stands.count ∙ sym (ap (λ (shape : Shape). shape.vaddrs) reads.medium.virtual.same_shape);
         clean = λ tells. (runs-alike (device_map g t) (device_map g s) p q (λ u. sym (same-device s t reads tells u)) (keeps.alike tells)).clean;

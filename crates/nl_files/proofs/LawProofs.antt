@@ -11,7 +11,7 @@ use Rattle.nl_meta.specs.Committed.{VirtualMap}
 use Rattle.nl_meta.specs.Nodes.{pointer_at, pointers_at, pointers_of_inode}
 use Rattle.nl_meta.proofs.SlotProofs.{at_index, pointers_length}
 use Rattle.nl_indirect.proofs.Records.{file-parts}
-use Rattle.nl_files.specs.Laws.{AllAreOfNode, FilesStandOn, GoodAddressesHavePages}
+use Rattle.nl_files.specs.Laws.{AllAreOfNode, FilesArePreserved, GoodAddressesHavePages}
 use Rattle.nl_files.proofs.Keeping.{leads-then, pointer-then, stands-then}
 use Rattle.nl_files.specs.Spans.{pointers_of_span}
 
@@ -60,7 +60,7 @@ all_are_of_node pages rec file =
     let whole : length (rec.direct ++ flat_map (pointers_at pages) rec.addresses) ≡ 4104 = length-append rec.direct (flat_map (pointers_at pages) rec.addresses) ∙ (omega (arith, lengths, direct, sixteen)) in
     ap (filter (λ p. not (is_none_pointer p))) (by_index pages rec 4104 parts.direct whole) ∙ numbered 0 (rec.direct ++ flat_map (pointers_at pages) rec.addresses)
 
-pub files_stand_on : {D : Type 0} (g : Ghosts D) → FilesStandOn g
+pub files_stand_on : {D : Type 0} (g : Ghosts D) → FilesArePreserved g
 files_stand_on g s t rec p q reads keeps stands = record {
   stands = stands-then g s t rec p q reads keeps stands;
   pointers = pointer-then g s t rec p q reads keeps stands;

@@ -19,7 +19,7 @@ use Rattle.nl_indirect.specs.Storing.{DiffersInPage}
 use Rattle.nl_indirect.proofs.LawProofs.{at-slot}
 use Rattle.nl_indirect.proofs.OtherNodes.{after-same, same-graph, same-record}
 use Rattle.nl_indirect.proofs.Pointing.{address-node, address-range}
-use Rattle.nl_meta_running.specs.FileLaws.{ChangesFile, IsRight}
+use Rattle.nl_meta_running.specs.FileLaws.{ChangesFileRecord, IsRight}
 
 in-slot : (xs : List ℕ) (r a : ℕ) → slice_get xs r ≡ Some a → slice_index xs r ≡ a
 in-slot [] r a e = absurd (none_some a e)
@@ -129,7 +129,7 @@ module _ (shape : Shape) (n index : ℕ) (was put : InodeRec) (old new after : V
       low e (inl z) = omega (arith, e, z)
       low e (inr p) = omega (arith, e, p, h)
 
-  pub file-changes : ChangesFile shape old after n was put
+  pub file-changes : ChangesFileRecord shape old after n was put
   file-changes = record {
     node_before = f.is_node;
     file_before = f.is_file;

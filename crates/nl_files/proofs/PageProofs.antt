@@ -7,14 +7,14 @@ use Rattle.nl_iface.specs.declared.counts.Counts.{Ghosts}
 use Rattle.nl_meta.specs.Nodes.{slots_of}
 use Rattle.nl_meta.specs.PageLaws.{IsApart}
 use Rattle.nl_meta.specs.Pages.{page_of}
-use Rattle.nl_meta.specs.Steps.{ChangesPages}
+use Rattle.nl_meta.specs.Steps.{ChangesRunningPages}
 use Rattle.nl_meta.proofs.PageProofs.{changed, loaded, none}
 use Rattle.nl_indirect.specs.Ranges.{address_of, range_of}
 use Rattle.nl_indirect.specs.declared.answer.Stored.TheVariants.{Done}
 use Rattle.nl_indirect.proofs.PageProofs.{may-be, storing_changes_pages}
 use Rattle.nl_indirect.proofs.Pointing.{address-node, address-range}
 use Rattle.nl_files.specs.Cutting.{Rewrites}
-use Rattle.nl_files.specs.Installing.{Takes}
+use Rattle.nl_files.specs.Installing.{TakesLeastAddress}
 use Rattle.nl_files.specs.PageLaws.{CuttingChangesPages, InstallingChangesPages, ReadingChangesPages}
 use Rattle.nl_files.specs.Standing.{IsOwn}
 
@@ -33,7 +33,7 @@ reading_changes_pages g s rec old new far keeps own = loaded old new (record {
 pub installing_changes_pages : InstallingChangesPages
 installing_changes_pages index to was is old new s t range low installs = storing_changes_pages index to installs.fresh was is old new Done range (by installs.fresh installs.taken) installs.stores
   where
-    by : (o : Option ℕ) → Takes o s t → IfSome o IsApart
+    by : (o : Option ℕ) → TakesLeastAddress o s t → IfSome o IsApart
     by None h = tt
     by (Some a) h = let free = leb-true s.first a (and_parts (nat_le s.first a) _ h.0.free_itself).0 in inr (omega (arith, low, free))
 
@@ -47,8 +47,8 @@ cut-same last was is (inr high) (inr e) = inr (address-range is last high ∙ e)
 pub cutting_changes_pages : CuttingChangesPages
 cutting_changes_pages size partial was is old new s t range cuts = by cuts.written
   where
-    by : (new ≡ old) ⊎ Rewrites (address_of is (size / 4096)) old new → ChangesPages old new
-    by (inl e) = subst (ChangesPages old) (sym e) (none old)
-    by (inr w) = subst (ChangesPages old) (sym w.page)
+    by : (new ≡ old) ⊎ Rewrites (address_of is (size / 4096)) old new → ChangesRunningPages old new
+    by (inl e) = subst (ChangesRunningPages old) (sym e) (none old)
+    by (inr w) = subst (ChangesRunningPages old) (sym w.page)
         (changed old (address_of is (size / 4096)) w.bytes
         (may-be old was (size / 4096) (address_of is (size / 4096)) range (cut-same (size / 4096) was is (cases_lt (size / 4096) 8) (cuts.addresses.either (range_of (size / 4096))))))

@@ -17,8 +17,8 @@ use Rattle.nl_indirect.specs.Storing.{Stores}
 use Rattle.nl_indirect.specs.declared.answer.Stored.TheVariants.{Done}
 use Rattle.nl_indirect.proofs.Pointing.{address-node, address-range, runs}
 use Rattle.nl_files.specs.Cutting.{Cuts, Rewrites}
-use Rattle.nl_files.specs.Laws.{StandsAfter}
-use Rattle.nl_files.specs.Standing.{FileStands, IsAtHand, device_map, running_map}
+use Rattle.nl_files.specs.Laws.{FilePreservedWith}
+use Rattle.nl_files.specs.Standing.{FileIsAtHand, IsAtHand, device_map, running_map}
 use Rattle.nl_files.proofs.Keeping.{in-list, resident-pointers}
 
 abbrev pub slot : InodeRec → ℕ → ℕ
@@ -56,7 +56,7 @@ module _ (was is : InodeRec) (p q : Pages) (goes : Goes was is p q) where
           subst (λ (v : ℕ). HasPointers (page_of q) v) (sym (address-range is i high))
           (resident (range_of i) (λ e. far (address-range is i high ∙ e)) (λ some. subst (λ (v : ℕ). HasPointers (page_of p) v) (address-range was i high) (has (λ e. some (sym (address-range was i high) ∙ e)))))
 
-  module _ {D : Type 0} (g : Ghosts D) (s : D) (stands : FileStands g s was p) where
+  module _ {D : Type 0} (g : Ghosts D) (s : D) (stands : FileIsAtHand g s was p) where
     pages : (r : ℕ) → slot is r ≢ 0 → HasPointers (running_map g s q) (slot is r)
     pages r far = by (cases_eq (slot was r) 0)
       where
@@ -79,7 +79,7 @@ module _ (was is : InodeRec) (p q : Pages) (goes : Goes was is p q) where
         by (inl none) = inr (goes.there r far (λ n. absurd (n none)))
         by (inr some) = at (stands.at_hand r some)
 
-    stands-on : FileStands g s is q
+    stands-on : FileIsAtHand g s is q
     stands-on = record {
       count = goes.count ∙ stands.count;
       clean = λ tells. goes.clean (device_map g s) (stands.clean tells);
@@ -88,7 +88,7 @@ module _ (was is : InodeRec) (p q : Pages) (goes : Goes was is p q) where
       at_hand = at_hand;
     }
 
-pub stands-after : {D : Type 0} (g : Ghosts D) (s : D) (was is : InodeRec) (p q : Pages) → Goes was is p q → StandsAfter g s was is p q
+pub stands-after : {D : Type 0} (g : Ghosts D) (s : D) (was is : InodeRec) (p q : Pages) → Goes was is p q → FilePreservedWith g s was is p q
 stands-after g s was is p q goes = record { stands = λ stands. stands-on was is p q goes g s stands; ranges = ranges was is p q goes }
 
 -- ---- a pointer is installed

@@ -53,10 +53,10 @@ IsLostCount counted.Fault = ⊥
 IsLostCount (counted.Lost w f) = ⊤
 
 -- what holds of what a look at a pointer found
-abbrev pub IfAt : Looked → (Option Pointer → Type 0) → Type 0
-IfAt (looked.At found) P = P found
-IfAt looked.Fault P = ⊤
-IfAt (looked.Lost w f) P = ⊤
+abbrev pub IfPointerAt : Looked → (Option Pointer → Type 0) → Type 0
+IfPointerAt (looked.At found) P = P found
+IfPointerAt looked.Fault P = ⊤
+IfPointerAt (looked.Lost w f) P = ⊤
 
 abbrev pub LosesLook : (ℕ → Type 0) → Looked → Type 0
 LosesLook wanted (looked.At found) = ⊤

@@ -17,9 +17,9 @@ use Rattle.nl_meta.specs.Consistent.{IsNode}
 use Rattle.nl_meta.specs.Nodes.{graph_of, is_physical_name, pointer_at}
 use Rattle.nl_meta.specs.Pages.{Pages, page_of}
 use Rattle.nl_meta.specs.Running.{CleanIsStored, running_over}
-use Rattle.nl_meta.specs.Steps.{ChangesPages}
-use Rattle.nl_meta_running.specs.FileLaws.{ChangesFile, IsRight}
-use Rattle.nl_meta_running.specs.Running.{IsNodeOf, Runs, running_on}
+use Rattle.nl_meta.specs.Steps.{ChangesRunningPages}
+use Rattle.nl_meta_running.specs.FileLaws.{ChangesFileRecord, IsRight}
+use Rattle.nl_meta_running.specs.Running.{IsNodeOf, RunningIsRight, running_on}
 use Rattle.nl_files.specs.Cutting.{Cuts}
 
 -- File n of a volume that is right is cut, over this device, and its record is written back. The pages that have the record and the pointer
@@ -41,7 +41,7 @@ pub record WritesCut (shape : Shape) (device : VirtualMap) (n size : ℕ) (parti
 -- and each other index what it had; every other node has what it had. What is free stays exactly what no node has.
 pub record CutIsWritten (shape : Shape) (n size : ℕ) (partial : Option Pointer) (was is : InodeRec) (before after : VirtualMap)
     (s t : Spaces) : Type 0 where
-  pub changes : ChangesFile shape before after n was is
+  pub changes : ChangesFileRecord shape before after n was is
   pub right : IsRight shape after
   pub others : (k : ℕ) → k ≢ n → graph_of shape after k ≡ graph_of shape before k
   pub gone : (i : ℕ) → div_ceil size 4096 ≤ i → pointer_at after is i ≡ no_pointer
@@ -72,12 +72,12 @@ pub record CutsOn {D : Type 0} (g : Ghosts D) (s : D) (n size : ℕ) (partial : 
 -- A volume runs, with the file so cut, and no page was lost.
 pub record RunsCut {D : Type 0} (g : Ghosts D) (s : D) (n size : ℕ) (partial : Option Pointer) (was is : InodeRec) (old written : Pages)
     (f t : Spaces) : Type 0 where
-  pub runs : Runs g s written
+  pub runs : RunningIsRight g s written
   pub cut : CutIsWritten (g.shape s) n size partial was is (running_on g s old) (running_on g s written) f t
-  pub pages : ChangesPages old written
+  pub pages : ChangesRunningPages old written
 
 abbrev pub CutRuns : {D : Type 0} → Ghosts D → Type 0
 CutRuns {D} g =
     (s : D) (n size : ℕ) (partial : Option Pointer) (was is : InodeRec) (old new written : Pages) (f t : Spaces) → IsVolumeShape (g.shape s)
-    → Runs g s old
+    → RunningIsRight g s old
     → CutsOn g s n size partial was is old new written f t → RunsCut g s n size partial was is old written f t

@@ -12,7 +12,7 @@ use Rattle.nl_meta.specs.Running.{CleanIsStored, running_over}
 use Rattle.nl_meta.specs.Steps.{with_dirty}
 use Rattle.nl_inode.specs.Nodes.{Spaces, is_free_address}
 use Rattle.nl_indirect.specs.Ranges.{HasPointers, IsFileRecord, address_of}
-use Rattle.nl_indirect.specs.Storing.{Begins, DiffersInPage}
+use Rattle.nl_indirect.specs.Storing.{BeginsRange, DiffersInPage}
 use Rattle.nl_indirect.specs.Truncating.{CutsAddresses}
 
 -- Each address of the file is one of the pool.
@@ -28,7 +28,7 @@ pub record LosesAddress (was is : List ℕ) (a : ℕ) : Type 0 where
   pub gone : slice_index is at ≡ 0
 
 -- The addresses that the file lost are free, and each other address, and each node, is free or not as before.
-pub record GivesBack (was is : List ℕ) (s t : Spaces) : Type 0 where
+pub record GivesBackAddresses (was is : List ℕ) (s t : Spaces) : Type 0 where
   pub nodes : t.nodes ≡ s.nodes
   pub first : t.first ≡ s.first
   pub count : length t.pool ≡ length s.pool
@@ -40,7 +40,7 @@ pub record GivesBack (was is : List ℕ) (s t : Spaces) : Type 0 where
 pub record IsPartial (size : ℕ) (rec : InodeRec) (to : Pointer) : Type 0 where
   pub within : size % 4096 ≢ 0
   pub spelled : IsTrue (is_stamp to.stamp)
-  pub page : Begins rec (size / 4096) (Some to) → ⊥
+  pub page : BeginsRange rec (size / 4096) (Some to) → ⊥
 
 -- Each index wholly behind the size has no pointer; that in which the file ends has the one that is given, if any; and each other index
 -- has the pointer that it had. Each range that still has a page has a pointer, as it had one before, so a page is the file's no longer
@@ -70,7 +70,7 @@ pub record Cuts (size : ℕ) (partial : Option Pointer) (was is : InodeRec) (old
   pub generation : is.generation ≡ was.generation
   -- the addresses that the file lost are free
   pub addresses : CutsAddresses (div_ceil size 4096) (slots_of was) (slots_of is)
-  pub given : GivesBack (slots_of was) (slots_of is) s t
+  pub given : GivesBackAddresses (slots_of was) (slots_of is) s t
   -- the page of the index in which the file ends was written, or none was
   pub written : (new ≡ old) ⊎ Rewrites (address_of is (size / 4096)) old new
   pub one_more : length (besides_0 new.dirty) ≤ length (besides_0 old.dirty) + 1

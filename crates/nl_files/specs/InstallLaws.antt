@@ -15,7 +15,7 @@ use Rattle.nl_meta.specs.Running.{CleanIsStored, running_over}
 use Rattle.nl_inode.specs.FreeLaws.{NodesAreFree, PoolIsFree}
 use Rattle.nl_inode.specs.Nodes.{PutsNode, Spaces, page_of_node}
 use Rattle.nl_indirect.specs.Ranges.{HasRange}
-use Rattle.nl_meta_running.specs.FileLaws.{ChangesFile, IsRight}
+use Rattle.nl_meta_running.specs.FileLaws.{ChangesFileRecord, IsRight}
 use Rattle.nl_files.specs.Installing.{Installs}
 
 -- A pointer to the physical segment is installed in file n of a volume that is right, over this device, and the record is written back with
@@ -41,7 +41,7 @@ pub record InstallsAt (shape : Shape) (device : VirtualMap) (n index : ℕ) (to 
 -- node has.
 pub record FileIsInstalled (shape : Shape) (n index : ℕ) (to : Pointer) (was is : InodeRec) (before after : VirtualMap)
     (s t : Spaces) : Type 0 where
-  pub changes : ChangesFile shape before after n was is
+  pub changes : ChangesFileRecord shape before after n was is
   pub right : IsRight shape after
   pub others : (k : ℕ) → k ≢ n → graph_of shape after k ≡ graph_of shape before k
   pub pointer : ChangesPointer shape before after n index was is

@@ -11,8 +11,8 @@ use Rattle.nl_inode.specs.Nodes.{PutsNode, Spaces, page_of_node}
 use Rattle.nl_indirect.specs.Ranges.{HasRange}
 use Rattle.nl_meta.specs.Nodes.{is_physical_name}
 use Rattle.nl_meta.specs.Pages.{Pages, page_of}
-use Rattle.nl_meta.specs.Steps.{ChangesPages}
-use Rattle.nl_meta_running.specs.Running.{IsNodeOf, Runs, running_on}
+use Rattle.nl_meta.specs.Steps.{ChangesRunningPages}
+use Rattle.nl_meta_running.specs.Running.{IsNodeOf, RunningIsRight, running_on}
 use Rattle.nl_files.specs.InstallLaws.{FileIsInstalled}
 use Rattle.nl_files.specs.Installing.{Installs}
 
@@ -35,13 +35,13 @@ pub record InstallsOn {D : Type 0} (g : Ghosts D) (s : D) (n index : ℕ) (to : 
 -- A volume runs, with the pointer so installed in the file, and no page was lost.
 pub record RunsInstalled {D : Type 0} (g : Ghosts D) (s : D) (n index : ℕ) (to : Pointer) (was is : InodeRec) (old written : Pages)
     (f t : Spaces) : Type 0 where
-  pub runs : Runs g s written
+  pub runs : RunningIsRight g s written
   pub installed : FileIsInstalled (g.shape s) n index to was is (running_on g s old) (running_on g s written) f t
-  pub pages : ChangesPages old written
+  pub pages : ChangesRunningPages old written
 
 abbrev pub InstalledRuns : {D : Type 0} → Ghosts D → Type 0
 InstalledRuns {D} g =
     (s : D) (n index : ℕ) (to : Pointer) (size : ℕ) (was is : InodeRec) (old new written : Pages) (f t : Spaces) → IsVolumeShape (g.shape s)
-    → Runs g s old
+    → RunningIsRight g s old
     → InstallsOn g s n index to size was is old new written f t
     → RunsInstalled g s n index to was (record is { size = size }) old written f t

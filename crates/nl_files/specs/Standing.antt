@@ -10,8 +10,8 @@ use Rattle.nl_iface.specs.declared.counts.Counts.{Ghosts}
 use Rattle.nl_meta.specs.Committed.{VirtualMap}
 use Rattle.nl_meta.specs.Nodes.{pointer_at, slots_of}
 use Rattle.nl_meta.specs.Pages.{Pages, page_of}
-use Rattle.nl_meta.specs.Running.{CleanIsStored, RunsAlike, running_over}
-use Rattle.nl_meta.specs.Steps.{Keeps}
+use Rattle.nl_meta.specs.Running.{CleanIsStored, SameRunning, running_over}
+use Rattle.nl_meta.specs.Steps.{KeepsOtherPages}
 use Rattle.nl_indirect.specs.Ranges.{HasPointers, IsFileRecord}
 
 -- what the device has at each address
@@ -28,7 +28,7 @@ IsAtHand tells p a = tells ⊎ IsSome (page_of p a)
 
 -- The file's record is right, and each of its addresses has a page at hand that spells pointers. So over a device that tells nothing,
 -- these pages are resident.
-pub record FileStands {D : Type 0} (g : Ghosts D) (s : D) (rec : InodeRec) (p : Pages) : Type 0 where
+pub record FileIsAtHand {D : Type 0} (g : Ghosts D) (s : D) (rec : InodeRec) (p : Pages) : Type 0 where
   pub count : length p.running ≡ (g.shape s).vaddrs
   pub clean : g.tells → CleanIsStored (device_map g s) p
   pub file : IsFileRecord rec
@@ -50,7 +50,7 @@ pub record KeepsRunning {D : Type 0} (g : Ghosts D) (s : D) (old new : Pages) : 
   pub count : length new.running ≡ length old.running
   pub dirty : new.dirty ≡ old.dirty
   pub frozen : new.frozen ≡ old.frozen
-  pub alike : g.tells → RunsAlike (device_map g s) old new
+  pub alike : g.tells → SameRunning (device_map g s) old new
   pub there : (u : ℕ) → g.tells ⊎ (page_of new u ≡ page_of old u)
   pub stays : (u : ℕ) → IsSome (page_of old u) → page_of new u ≡ page_of old u
 
@@ -64,4 +64,4 @@ pub record LoadsOwn (rec : InodeRec) (old new : Pages) : Type 0 where
 
 -- The page of an address was touched, where it is not 0, and each other page stays.
 abbrev pub LoadsAt : ℕ → Pages → Pages → Type 0
-LoadsAt a old new = (a ≡ 0 → new ≡ old) × (a ≢ 0 → Keeps a old new)
+LoadsAt a old new = (a ≡ 0 → new ≡ old) × (a ≢ 0 → KeepsOtherPages a old new)

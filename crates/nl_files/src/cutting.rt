@@ -5,7 +5,7 @@ ghost use Rattle.nl_meta.specs.Nodes.{pointer_at, slots_of};
 ghost use Rattle.nl_meta.specs.Pages.{has_room, page_of};
 ghost use Rattle.nl_meta.specs.Running.{running_over};
 ghost use Rattle.nl_indirect.specs.Ranges.{HasRange, IsFileRecord, address_of};
-ghost use Rattle.nl_files.specs.Cutting.{AreOfPool, Cuts, GivesBack, IsPartial};
+ghost use Rattle.nl_files.specs.Cutting.{AreOfPool, Cuts, GivesBackAddresses, IsPartial};
 ghost use Rattle.nl_files.specs.Spans.{as_list};
 
 use crate::installing::replace;
@@ -55,7 +55,7 @@ pub fn cut(
 // The addresses are free that stood in the first list, and in whose places the second has none.
 fn give_back(nodes: &mut Nodes, was: &[u32; 16], is: &[u32; 16])
     requires pool { AreOfPool nodes.old was.now }
-    ensures { GivesBack was.now is.now nodes.old nodes.new }
+    ensures { GivesBackAddresses was.now is.now nodes.old nodes.new }
 {
     for range in 0..RANGES {
         if was[range] != 0 && is[range] == 0 {

@@ -4,7 +4,7 @@ ghost use Rattle.nl_iface.specs.Calls.{OnlyReads, ReadsCounted};
 ghost use Rattle.nl_meta.specs.Nodes.{pointer_at};
 ghost use Rattle.nl_files.specs.Answers.{IfPages, IsLostFile, IsLostCount, IsPageStamp, LosesFile, LosesCount};
 ghost use Rattle.nl_files.specs.Spans.{pointers_from, as_list};
-ghost use Rattle.nl_files.specs.Standing.{FileStands, KeepsRunning, LoadsOwn, running_map};
+ghost use Rattle.nl_files.specs.Standing.{FileIsAtHand, KeepsRunning, LoadsOwn, running_map};
 
 use crate::answer::{CountPages, FileAnswer, Looked};
 use crate::pages::look;
@@ -16,7 +16,7 @@ use nl_meta::Meta;
 /// How many page indexes of a file have a pointer.
 pub fn count_pages<D: NamedPages>(device: &mut D, meta: &mut Meta, rec: &InodeRec) -> CountPages
     requires formed { D.formed device.old }
-    requires stands { FileStands D.Counts device.old rec.now meta.old }
+    requires stands { FileIsAtHand D.Counts device.old rec.now meta.old }
     ensures formed { D.formed device.new }
     ensures kept { OnlyReads D.Counts device.old device.new }
     ensures pages { KeepsRunning D.Counts device.old meta.old meta.new }
@@ -57,7 +57,7 @@ pub fn gather<D: NamedPages>(
 ) -> FileAnswer
     requires formed { D.formed device.old }
     requires within { from ≤ 4104 }
-    requires stands { FileStands D.Counts device.old rec.now meta.old }
+    requires stands { FileIsAtHand D.Counts device.old rec.now meta.old }
     requires room { length (pointers_from (running_map D.Counts device.old meta.old) rec.now from) ≤ freeing.old.room }
     requires few { length freeing.old.items + length (pointers_from (running_map D.Counts device.old meta.old) rec.now from) < 2 ^ 32 }
     ensures formed { D.formed device.new }
@@ -95,7 +95,7 @@ fn gather_one<D: NamedPages>(
 ) -> FileAnswer
     requires formed { D.formed device.old }
     requires within { index < 4104 }
-    requires stands { FileStands D.Counts device.old rec.now meta.old }
+    requires stands { FileIsAtHand D.Counts device.old rec.now meta.old }
     requires room { length (as_list (pointer_at (running_map D.Counts device.old meta.old) rec.now index)) ≤ freeing.old.room }
     requires few { length freeing.old.items
         + length (as_list (pointer_at (running_map D.Counts device.old meta.old) rec.now index)) < 2 ^ 32 }

@@ -7,9 +7,9 @@ ghost use Rattle.nl_meta.specs.Nodes.{pointer_at};
 ghost use Rattle.nl_meta.specs.Pages.{has_room, page_of};
 ghost use Rattle.nl_meta.specs.Running.{running_over};
 ghost use Rattle.nl_indirect.specs.Ranges.{HasRange, IsFileRecord, address_of};
-ghost use Rattle.nl_indirect.specs.Storing.{Begins, IsForNew, Stores};
+ghost use Rattle.nl_indirect.specs.Storing.{BeginsRange, IsForNew, Stores};
 ghost use Rattle.nl_indirect.specs.declared.answer.Stored.TheVariants.{Done};
-ghost use Rattle.nl_files.specs.Installing.{FreeAreNew, HasFree, Installs, Takes};
+ghost use Rattle.nl_files.specs.Installing.{FreeAreNewToFile, HasFree, Installs, TakesLeastAddress};
 ghost use Rattle.nl_files.specs.Spans.{as_list};
 
 use crate::gathering::add;
@@ -36,8 +36,8 @@ pub fn install(
     requires range { HasRange (page_of meta.old) rec.old index }
     requires to { IsTrue (is_stamp to.stamp) }
     requires room { address_of rec.old index ≢ 0 → has_room meta.old (address_of rec.old index) ≡ true }
-    requires free { FreeAreNew nodes.old meta.old rec.old }
-    requires fresh { Begins rec.old index (Some to) → HasFree nodes.old }
+    requires free { FreeAreNewToFile nodes.old meta.old rec.old }
+    requires fresh { BeginsRange rec.old index (Some to) → HasFree nodes.old }
     requires place { 0 < freeing.old.room }
     requires few { length freeing.old.items + 1 < 2 ^ 32 }
     ensures installed { Installs index to rec.old rec.new meta.old meta.new nodes.old nodes.new }
@@ -63,7 +63,7 @@ pub(crate) fn replace(
     requires range { HasRange (page_of meta.old) rec.old index }
     requires to { IsTrue (is_stamp to.stamp) }
     requires room { address_of rec.old index ≢ 0 → has_room meta.old (address_of rec.old index) ≡ true }
-    requires begins { IsSome fresh ↔ Begins rec.old index (Some to) }
+    requires begins { IsSome fresh ↔ BeginsRange rec.old index (Some to) }
     requires fresh { IfSome fresh (IsForNew meta.old rec.old) }
     requires place { 0 < freeing.old.room }
     requires few { length freeing.old.items + 1 < 2 ^ 32 }
@@ -82,9 +82,9 @@ pub(crate) fn replace(
 // Takes an address for a new page, where the range of the index has none.
 fn fresh_for(nodes: &mut Nodes, rec: &InodeRec, index: u32) -> Option<u32>
     requires within { index < 4104 }
-    requires fresh { (to : PointerOf) → Begins rec.now index (Some to) → HasFree nodes.old }
-    ensures begins { (to : PointerOf) → IsSome result ↔ Begins rec.now index (Some to) }
-    ensures taken { Takes result nodes.old nodes.new }
+    requires fresh { (to : PointerOf) → BeginsRange rec.now index (Some to) → HasFree nodes.old }
+    ensures begins { (to : PointerOf) → IsSome result ↔ BeginsRange rec.now index (Some to) }
+    ensures taken { TakesLeastAddress result nodes.old nodes.new }
 {
     if index < DIRECT {
         return None;

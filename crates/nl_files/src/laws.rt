@@ -4,7 +4,7 @@ ghost use Rattle.nl_files.specs.Contents.{CuttingCuts, InstallingWrites, PagesBy
 ghost use Rattle.nl_files.specs.CutRuns.{CutRuns, OneCutIsWritten};
 ghost use Rattle.nl_files.specs.InstallLaws.{OneFileIsInstalled};
 ghost use Rattle.nl_files.specs.InstalledRuns.{InstalledRuns};
-ghost use Rattle.nl_files.specs.Laws.{AllAreOfNode, CutStands, FilesStandOn, GoodAddressesHavePages, InstalledStands};
+ghost use Rattle.nl_files.specs.Laws.{AllAreOfNode, CutPreservesFile, FilesArePreserved, GoodAddressesHavePages, InstallPreservesFile};
 ghost use Rattle.nl_files.specs.PageLaws.{CuttingChangesPages, InstallingChangesPages, ReadingChangesPages};
 
 use nl_iface::NamedPages;
@@ -21,13 +21,13 @@ pub fn all_are_of_node()
 
 /// A file stands on after each call of this crate that only reads, with the pointers that it had.
 pub fn files_stand_on<D: NamedPages>()
-    ensures { FilesStandOn D.Counts }
+    ensures { FilesArePreserved D.Counts }
 {}
 
 /// A file stands on after `install` and `cut`, over any device.
 pub fn written_files_stand_on<D: NamedPages>()
-    ensures installed { InstalledStands D.Counts }
-    ensures cut { CutStands D.Counts }
+    ensures installed { InstallPreservesFile D.Counts }
+    ensures cut { CutPreservesFile D.Counts }
 {}
 
 /// Once the record is written back, one file has the pointers that a cut left, no other node changed, and what is free of the pool is

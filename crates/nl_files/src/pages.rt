@@ -5,10 +5,10 @@ ghost use Rattle.nl_iface.specs.Calls.{OnlyReads, ReadsCounted};
 ghost use Rattle.nl_meta.specs.Nodes.{pointer_at};
 ghost use Rattle.nl_meta.specs.Pages.{page_of};
 ghost use Rattle.nl_meta.specs.Running.{CleanIsStored};
-ghost use Rattle.nl_meta.specs.Steps.{Keeps};
+ghost use Rattle.nl_meta.specs.Steps.{KeepsOtherPages};
 ghost use Rattle.nl_indirect.specs.Ranges.{HasPointers, HasRange, address_of, some_pointer};
-ghost use Rattle.nl_files.specs.Answers.{IfAt, IsLostFile, IsLostLook, IsPageStamp, LosesFile, LosesLook};
-ghost use Rattle.nl_files.specs.Standing.{FileStands, IsAtHand, KeepsRunning, LoadsAt, LoadsOwn, device_map, running_map};
+ghost use Rattle.nl_files.specs.Answers.{IfPointerAt, IsLostFile, IsLostLook, IsPageStamp, LosesFile, LosesLook};
+ghost use Rattle.nl_files.specs.Standing.{FileIsAtHand, IsAtHand, KeepsRunning, LoadsAt, LoadsOwn, device_map, running_map};
 
 use crate::answer::{FileAnswer, Looked};
 use nl_field::InodeRec;
@@ -27,7 +27,7 @@ pub(crate) fn load<D: NamedPages>(device: &mut D, meta: &mut Meta, vaddr: u32) -
     ensures formed { D.formed device.new }
     ensures kept { OnlyReads D.Counts device.old device.new }
     ensures pages { KeepsRunning D.Counts device.old meta.old meta.new }
-    ensures others { Keeps vaddr meta.old meta.new }
+    ensures others { KeepsOtherPages vaddr meta.old meta.new }
     ensures ready { result ≡ FileAnswer.Done → HasPointers (page_of meta.new) vaddr }
     ensures faults { ReadsCounted D.Counts (result ≡ FileAnswer.Fault) device.old device.new }
     ensures lost { LosesFile (λ w. D.stamps device.old vaddr ≡ Some w) result }
@@ -53,7 +53,7 @@ pub fn prepare<D: NamedPages>(
     requires order { first ≤ last }
     requires few { last ≤ first + 16 }
     requires within { last < 4104 }
-    requires stands { FileStands D.Counts device.old rec.now meta.old }
+    requires stands { FileIsAtHand D.Counts device.old rec.now meta.old }
     ensures formed { D.formed device.new }
     ensures kept { OnlyReads D.Counts device.old device.new }
     ensures pages { KeepsRunning D.Counts device.old meta.old meta.new }
@@ -80,7 +80,7 @@ pub(crate) fn load_range<D: NamedPages>(
 ) -> FileAnswer
     requires formed { D.formed device.old }
     requires within { index < 4104 }
-    requires stands { FileStands D.Counts device.old rec.now meta.old }
+    requires stands { FileIsAtHand D.Counts device.old rec.now meta.old }
     ensures formed { D.formed device.new }
     ensures kept { OnlyReads D.Counts device.old device.new }
     ensures pages { KeepsRunning D.Counts device.old meta.old meta.new }
@@ -106,12 +106,12 @@ pub(crate) fn look<D: NamedPages>(
 ) -> Looked
     requires formed { D.formed device.old }
     requires within { index < 4104 }
-    requires stands { FileStands D.Counts device.old rec.now meta.old }
+    requires stands { FileIsAtHand D.Counts device.old rec.now meta.old }
     ensures formed { D.formed device.new }
     ensures kept { OnlyReads D.Counts device.old device.new }
     ensures pages { KeepsRunning D.Counts device.old meta.old meta.new }
     ensures only { LoadsOwn rec.now meta.old meta.new }
-    ensures at { IfAt result (λ found. found ≡ some_pointer (pointer_at (running_map D.Counts device.old meta.old) rec.now index)) }
+    ensures at { IfPointerAt result (λ found. found ≡ some_pointer (pointer_at (running_map D.Counts device.old meta.old) rec.now index)) }
     ensures faults { ReadsCounted D.Counts (result ≡ Looked.Fault) device.old device.new }
     ensures lost { LosesLook (IsPageStamp (D.stamps device.old) rec.now) result }
     ensures told { D.tells → IsLostLook result → ⊥ }

@@ -5,7 +5,7 @@ ghost use Rattle.nl_iface.specs.Holders.{IsRef, always, wants_tagged};
 ghost use Rattle.nl_iface.specs.Names.{place_of};
 ghost use Rattle.nl_files.specs.Answers.{IsLostFile, LosesFile};
 ghost use Rattle.nl_files.specs.Reading.{AreBytesFrom, IsWanted, file_page};
-ghost use Rattle.nl_files.specs.Standing.{FileStands, KeepsRunning, LoadsOwn, PointersLead, running_map};
+ghost use Rattle.nl_files.specs.Standing.{FileIsAtHand, KeepsRunning, LoadsOwn, PointersLead, running_map};
 
 use crate::answer::{FileAnswer, Looked};
 use crate::pages::look;
@@ -28,7 +28,7 @@ pub fn read<D: NamedPages>(
 ) -> FileAnswer
     requires formed { D.formed device.old }
     requires within { at + length out.old ≤ rec.now.size }
-    requires stands { FileStands D.Counts device.old rec.now meta.old }
+    requires stands { FileIsAtHand D.Counts device.old rec.now meta.old }
     requires leads { PointersLead (D.names device.old) ino rec.now (running_map D.Counts device.old meta.old) }
     ensures formed { D.formed device.new }
     ensures kept { OnlyReads D.Counts device.old device.new }
@@ -80,7 +80,7 @@ fn read_page<D: NamedPages>(
 ) -> FileAnswer
     requires formed { D.formed device.old }
     requires within { index < 4104 }
-    requires stands { FileStands D.Counts device.old rec.now meta.old }
+    requires stands { FileIsAtHand D.Counts device.old rec.now meta.old }
     requires leads { PointersLead (D.names device.old) ino rec.now (running_map D.Counts device.old meta.old) }
     ensures formed { D.formed device.new }
     ensures kept { OnlyReads D.Counts device.old device.new }

@@ -32,8 +32,8 @@ abbrev pub extra : InFlight → ℕ
 extra now = length now.pages - 16
 
 -- a worker has sixteen places of its own, and two are there for all: those of the partial pages of the line whose effect runs
-abbrev pub HasPlace : List InFlight → ℕ → Type 0
-HasPlace flight worker = (length (of_worker flight worker).pages < 16) ⊎ (sum_by extra flight < 2)
+abbrev pub HasFlightRoom : List InFlight → ℕ → Type 0
+HasFlightRoom flight worker = (length (of_worker flight worker).pages < 16) ⊎ (sum_by extra flight < 2)
 
 -- there are eight workers, at most two pages more than sixteen for each, and a worker without a line has neither pages nor a goal
 pub record IsFlight (flight : List InFlight) : Type 0 where

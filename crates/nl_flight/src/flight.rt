@@ -2,7 +2,7 @@
 ghost use Rattle.std.specs.Prelude.{◌≡◌, ℕ, ◌+◌, ◌<◌, ◌≤◌, ◌↔◌, [], ◌∷◌, ◌++◌, length, slice_get, Some, None, IsTrue, IsNone, IfOk, IfSome};
 ghost use Rattle.nl_field.specs.declared.pointer.Pointer.{Pointer};
 ghost use Rattle.nl_field.specs.declared.pointer.Tag.{Tag};
-ghost use Rattle.nl_flight.specs.Flight.{HasPlace, InFlight, IsFlight, begun, has_stamp, nothing, of_worker, renamed, with_line};
+ghost use Rattle.nl_flight.specs.Flight.{HasFlightRoom, InFlight, IsFlight, begun, has_stamp, nothing, of_worker, renamed, with_line};
 
 use crate::Memory;
 use crate::line::WorkerLine;
@@ -134,7 +134,7 @@ impl Flight {
     pub fn put(&mut self, worker: u8, index: u32, at: Pointer, tag: Tag)
         requires known { worker < 8 }
         requires some { 0 < (of_worker self.old worker).line }
-        requires place { HasPlace self.old worker }
+        requires place { HasFlightRoom self.old worker }
         ensures put { let was = of_worker self.old worker in self.new ≡ with_line self.old worker
             (record { line = was.line; fault = was.fault; goal = was.goal; pages = was.pages ++ record { index = index; at = at; tag = tag } ∷ [] }) }
     {

@@ -22,9 +22,9 @@ use Rattle.nl_meta.specs.Nodes.{pointer_at, slot_in, slots_of}
 use Rattle.nl_meta.specs.Pages.{Pages, page_of}
 use Rattle.nl_meta.specs.Running.{or_stored, running_over}
 use Rattle.nl_meta.proofs.Lists.{some_in}
-use Rattle.nl_meta_running.specs.Running.{IsNeeded, Runs, RunsOn, running_on, stored_on}
+use Rattle.nl_meta_running.specs.Running.{IsNeeded, RunningIsRight, PreservesRunning, running_on, stored_on}
 use Rattle.nl_meta_running.proofs.Kept.{used-on}
-use Rattle.nl_handler.specs.Changing.{IsAtHand}
+use Rattle.nl_handler.specs.Changing.{TaggedPointerIsResident}
 use Rattle.nl_handler.specs.Handling.{HasTagged, HoldsTagged, TagsFile, is_of}
 
 -- ---- pointers of a node in two maps
@@ -106,8 +106,8 @@ pointer-spelled pages rec i file range some = stamp-of (pointer_at pages rec i) 
 
 -- ---- what is found
 
-module _ {D : Type 0} (g : Ghosts D) (s : D) (p : Pages) (bounds : ShapeBounds (g.shape s)) (runs : Runs g s p) (tag : Tag) (rec : InodeRec) (file : TagsFile (g.shape s) (running_on g s p) tag rec)
-    (t : D) (q : Pages) (on : RunsOn g s p t q) where
+module _ {D : Type 0} (g : Ghosts D) (s : D) (p : Pages) (bounds : ShapeBounds (g.shape s)) (runs : RunningIsRight g s p) (tag : Tag) (rec : InodeRec) (file : TagsFile (g.shape s) (running_on g s p) tag rec)
+    (t : D) (q : Pages) (on : PreservesRunning g s p t q) where
   -- the file is the same
   pub file-on : TagsFile (g.shape t) (running_on g t q) tag rec
   file-on = record { is_node = used-on g s p t q bounds on tag.ino rec file.is_node; tagged = file.tagged }
@@ -135,7 +135,7 @@ module _ {D : Type 0} (g : Ghosts D) (s : D) (p : Pages) (bounds : ShapeBounds (
       a-file : IsFileRecord rec
       a-file = (file_of_node (g.shape s) (running_on g s p) tag.ino rec runs.addresses file.is_node file.tagged.is_file).file
 
-      pub at-hand : IsAtHand q tag rec
+      pub at-hand : TaggedPointerIsResident q tag rec
       at-hand = record { node = node; file = a-file; range = range; some = not-true _ parts.0 }
 
       pub stamp-spelled : IsTrue (is_stamp stamp)

@@ -15,7 +15,7 @@ use Rattle.nl_meta.specs.Consistent.{AddressAt, GoodAddress}
 use Rattle.nl_meta.specs.Nodes.{inode_at, slots_of}
 use Rattle.nl_meta.specs.Pages.{Pages, page_of}
 use Rattle.nl_meta.proofs.Lists.{some_in}
-use Rattle.nl_meta_running.specs.Running.{IsNeeded, Runs, RunsOn, running_on}
+use Rattle.nl_meta_running.specs.Running.{IsNeeded, RunningIsRight, PreservesRunning, running_on}
 use Rattle.nl_meta_running.proofs.Kept.{inode-resident, resident-is}
 use Rattle.nl_meta_running.proofs.SameNeeded.{inode-address}
 use Rattle.nl_handler.specs.Handling.{IsTagged, TagsFile}
@@ -31,7 +31,7 @@ if-some P Q o x e h = subst (λ k. MatchOption k P Q) e h
 pub file-unused : File ≡ Unused → ⊥
 file-unused e = cc
 
-module _ {D : Type 0} (g : Ghosts D) (s : D) (p : Pages) (bounds : ShapeBounds (g.shape s)) (runs : Runs g s p) (tag : Tag) where
+module _ {D : Type 0} (g : Ghosts D) (s : D) (p : Pages) (bounds : ShapeBounds (g.shape s)) (runs : RunningIsRight g s p) (tag : Tag) where
   pub node-needed : tag.ino < (g.shape s).nodes → IsNeeded (g.shape s) (running_on g s p) (67 + tag.ino / 16)
   node-needed h = let f = bounds.places in inl (inode-address (g.shape s) tag.ino (omega (arith, h, f)))
 
@@ -39,7 +39,7 @@ module _ {D : Type 0} (g : Ghosts D) (s : D) (p : Pages) (bounds : ShapeBounds (
   spelled : tag.ino < (g.shape s).nodes → (rec : InodeRec) × (inode_at (running_on g s p) tag.ino ≡ Some rec)
   spelled h = let r = runs.nodes.spelled tag.ino h in (r.0, r.1)
 
-  module _ (t : D) (q : Pages) (on : RunsOn g s p t q) (h : tag.ino < (g.shape s).nodes) (there : IsSome (page_of q (page_of_node tag.ino))) where
+  module _ (t : D) (q : Pages) (on : PreservesRunning g s p t q) (h : tag.ino < (g.shape s).nodes) (there : IsSome (page_of q (page_of_node tag.ino))) where
     same : inode_at (page_of q) tag.ino ≡ inode_at (running_on g s p) tag.ino
     same = inode-resident g s p t q bounds on tag.ino h there
 
@@ -74,7 +74,7 @@ module _ {D : Type 0} (g : Ghosts D) (s : D) (p : Pages) (bounds : ShapeBounds (
     pub range-needed : IsNeeded (g.shape s) (running_on g s p) (address_of rec tag.index)
     range-needed = inr (tag.ino, range_of tag.index, at)
 
-  pub range-there : (rec : InodeRec) → TagsFile (g.shape s) (running_on g s p) tag rec → (t : D) (q : Pages) → RunsOn g s p t q
+  pub range-there : (rec : InodeRec) → TagsFile (g.shape s) (running_on g s p) tag rec → (t : D) (q : Pages) → PreservesRunning g s p t q
       → (address_of rec tag.index ≢ 0 → IsSome (page_of q (address_of rec tag.index))) → HasRange (page_of q) rec tag.index
   unfolding at
   range-there rec file t q on there far = record {

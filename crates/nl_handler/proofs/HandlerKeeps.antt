@@ -11,16 +11,16 @@ use Rattle.nl_flight.specs.declared.page.FlightPage.{FlightPage}
 use Rattle.nl_spec_holders.specs.Lists.{Renames}
 use Rattle.nl_spec_holders.proofs.Lists.{one_no, one_yes, renames_none, times_append, times_has}
 use Rattle.nl_iface.specs.Holders.{IsHeld, IsRef, always, one, plain, tagged, times, wants_tagged}
-use Rattle.nl_iface.specs.Names.{Has, IsTable, LivePage, led, told_page}
+use Rattle.nl_iface.specs.Names.{Has, IsTableOfNames, LivePage, led, told_page}
 use Rattle.nl_iface.specs.declared.Callback.{Callback}
 use Rattle.nl_iface.specs.declared.counts.Counts.{Ghosts}
 use Rattle.nl_meta.specs.Nodes.{pointer_at}
 use Rattle.nl_meta.specs.Pages.{Pages}
 use Rattle.nl_meta.specs.PointerLists.{tagged_in}
 use Rattle.nl_meta.proofs.Lists.{some_in}
-use Rattle.nl_meta_running.specs.Running.{Runs, running_on}
+use Rattle.nl_meta_running.specs.Running.{RunningIsRight, running_on}
 use Rattle.nl_handler.specs.Handling.{HandlesStored, HoldsTagged, IsElsewhere, RenamesOn, TagsFile, list_has}
-use Rattle.nl_handler.specs.Laws.{HandledHolders, HandlerKeeps, Handles, holders_on}
+use Rattle.nl_handler.specs.Laws.{HandledHolders, HandlerKeeps, HandlerAnswers, holders_on}
 use Rattle.nl_handler.specs.declared.answer.Handled.{Handled}
 use Rattle.nl_handler.specs.declared.answer.Handled.TheVariants as handled
 use Rattle.nl_handler.proofs.HolderPlace.{StandsAt, stands}
@@ -92,8 +92,8 @@ gone-renamed : handled.Gone ≡ handled.Renamed → ⊥
 gone-renamed e = cc
 
 module _ {D : Type 0} (g : Ghosts D) (s : D) (p : Pages) (t : D) (q : Pages) (flight : List InFlight) (freeing : List Pointer) (c : Callback) (answer : Handled)
-    (runs : Runs g s p) (table : IsTable (g.names s)) (held : IsHeld (g.names s) (holders_on g s p flight freeing)) (pending : Has (g.names s).pending c)
-    (does : Handles g s p t q flight freeing c answer) where
+    (runs : RunningIsRight g s p) (table : IsTableOfNames (g.names s)) (held : IsHeld (g.names s) (holders_on g s p flight freeing)) (pending : Has (g.names s).pending c)
+    (does : HandlerAnswers g s p t q flight freeing c answer) where
   abbrev running : List (Tag × Pointer)
   running = tagged_in (g.shape s) (running_on g s p)
 

@@ -8,13 +8,13 @@ use Rattle.nl_field.specs.Medium.{first_physical}
 use Rattle.nl_field.specs.Pointers.{is_none_pointer}
 use Rattle.nl_field.specs.declared.shape.Shape.{Shape}
 use Rattle.nl_iface.specs.Device.{IsDeviceState, state_of}
-use Rattle.nl_iface.specs.Names.{Has, IsNames, IsTable, Names, led, told_page}
+use Rattle.nl_iface.specs.Names.{Has, IsNames, IsTableOfNames, Names, led, told_page}
 use Rattle.nl_iface.specs.declared.Callback.{Callback}
 use Rattle.nl_iface.specs.declared.counts.Counts.{Ghosts}
 use Rattle.nl_iface.proofs.Tables.{is_table}
 use Rattle.nl_meta.specs.Nodes.{is_physical_name}
 
-module _ (shape : Shape) (next : ℕ) (names : Names) (tables : IsNames shape next names) (table : IsTable names) (c : Callback) (pending : Has names.pending c) (to stamp : ℕ) (is : to ≡ resolve names.pairs c.before) where
+module _ (shape : Shape) (next : ℕ) (names : Names) (tables : IsNames shape next names) (table : IsTableOfNames names) (c : Callback) (pending : Has names.pending c) (to stamp : ℕ) (is : to ≡ resolve names.pairs c.before) where
   low : first_physical shape ≤ to
   low = subst (λ (n : ℕ). first_physical shape ≤ n) (sym is) (tables.from_first (led names c.before) (told_page c) (table.called c pending))
 

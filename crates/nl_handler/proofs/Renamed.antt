@@ -33,8 +33,8 @@ use Rattle.nl_meta.specs.SlotLaws.{ChangesSlot, with_slot}
 use Rattle.nl_meta.specs.Steps.{with_dirty}
 use Rattle.nl_meta.proofs.Lists.{none_some, some_in}
 use Rattle.nl_meta.proofs.SlotProofs.{one_slot}
-use Rattle.nl_meta_running.specs.FileLaws.{ChangesFile, IsRight}
-use Rattle.nl_handler.specs.Changing.{IsAtHand, RenamesIn}
+use Rattle.nl_meta_running.specs.FileLaws.{ChangesFileRecord, IsRight}
+use Rattle.nl_handler.specs.Changing.{TaggedPointerIsResident, RenamesIn}
 use Rattle.nl_handler.specs.Handling.{TagsFile, page_holding}
 use Rattle.nl_handler.proofs.Rewritten.{Rewritten, over-same, over-there, resident}
 
@@ -60,7 +60,7 @@ file-used e = cc
 
 module _ (shape : Shape) (bounds : ShapeBounds shape) (d : VirtualMap) (tag : Tag) (to : Pointer) (was : InodeRec) (q r : Pages)
     (clean : CleanIsStored d q) (right : IsRight shape (running_over d q)) (file : TagsFile shape (running_over d q) tag was)
-    (spelled : IsTrue (is_stamp to.stamp)) (physical : IsTrue (is_physical_name shape to)) (hand : IsAtHand q tag was) (renames : RenamesIn tag to was q r) where
+    (spelled : IsTrue (is_stamp to.stamp)) (physical : IsTrue (is_physical_name shape to)) (hand : TaggedPointerIsResident q tag was) (renames : RenamesIn tag to was q r) where
   abbrev n : ℕ
   n = tag.ino
 
@@ -326,7 +326,7 @@ module _ (shape : Shape) (bounds : ShapeBounds shape) (d : VirtualMap) (tag : Ta
           subst (λ (k : Pointer). IsTrue (is_physical_name shape k)) (sym (sym (at-node half is at.0 low) ∙ stored.others at.0 off ∙ at-node one was at.0 low))
           (were (get_or was.direct at.0 no_pointer) (get-has no_pointer was.direct at.0 (let l = parts-before.direct in omega (arith, low, l))))
 
-  pub file-changes : ChangesFile shape one two n was is
+  pub file-changes : ChangesFileRecord shape one two n was is
   file-changes = record {
     node_before = file.is_node;
     file_before = file.tagged.is_file;

@@ -19,22 +19,22 @@ use Rattle.nl_meta.specs.Nodes.{bytes_of_node, inode_at, is_physical_name, point
 use Rattle.nl_meta.specs.Pages.{Pages, besides_0, has_room, most, page_of, with_address}
 use Rattle.nl_meta.specs.PointerLists.{ChangesPointer, tagged_by}
 use Rattle.nl_meta.specs.Running.{CleanIsStored, running_over}
-use Rattle.nl_meta.specs.Steps.{ChangesPages}
+use Rattle.nl_meta.specs.Steps.{ChangesRunningPages}
 use Rattle.nl_meta.proofs.PageProofs.{both, changed, loaded}
-use Rattle.nl_meta_running.specs.FileLaws.{ChangesFile, IsRight}
-use Rattle.nl_meta_running.specs.Running.{IsNeeded, Runs, RunsOn, running_on, stored_on}
+use Rattle.nl_meta_running.specs.FileLaws.{ChangesFileRecord, IsRight}
+use Rattle.nl_meta_running.specs.Running.{IsNeeded, RunningIsRight, PreservesRunning, running_on, stored_on}
 use Rattle.nl_meta_running.proofs.FileChanges.{one_file_changes}
 use Rattle.nl_meta_running.proofs.GraphStays.{graph-same}
 use Rattle.nl_meta_running.proofs.Kept.{loads-on, runs-then}
 use Rattle.nl_meta_running.proofs.SameNeeded.{addresses-right, entries-right, inode-address, node-to, nodes-right}
-use Rattle.nl_handler.specs.Changing.{IsAtHand, RenamesIn}
+use Rattle.nl_handler.specs.Changing.{TaggedPointerIsResident, RenamesIn}
 use Rattle.nl_handler.specs.Handling.{HasTagged, RenamesOn, RenamesPointer, TagsFile, page_holding}
 use Rattle.nl_handler.proofs.Finding.{pointers-same}
 use Rattle.nl_handler.proofs.Renamed.{file-changes, own-had, pointer-changes, pointer-now, rewritten, same-slots}
 use Rattle.nl_handler.proofs.Rewritten.{Rewritten, clean, count, dirty, frozen, others, over-running, over-twice, resident}
 
-module _ {D : Type 0} (g : Ghosts D) (s : D) (p : Pages) (bounds : ShapeBounds (g.shape s)) (runs : Runs g s p) (t : D) (q : Pages) (on : RunsOn g s p t q)
-    (tag : Tag) (to : Pointer) (was : InodeRec) (has : HasTagged (g.shape s) (running_on g s p) tag to.stamp was) (hand : IsAtHand q tag was)
+module _ {D : Type 0} (g : Ghosts D) (s : D) (p : Pages) (bounds : ShapeBounds (g.shape s)) (runs : RunningIsRight g s p) (t : D) (q : Pages) (on : PreservesRunning g s p t q)
+    (tag : Tag) (to : Pointer) (was : InodeRec) (has : HasTagged (g.shape s) (running_on g s p) tag to.stamp was) (hand : TaggedPointerIsResident q tag was)
     (spelled : IsTrue (is_stamp to.stamp)) (physical : IsTrue (is_physical_name (g.shape s) to)) (r : Pages) (renames : RenamesIn tag to was q r) where
   abbrev shape : Shape
   shape = g.shape s
@@ -84,10 +84,10 @@ module _ {D : Type 0} (g : Ghosts D) (s : D) (p : Pages) (bounds : ShapeBounds (
 
   -- ---- the step over what was read
 
-  mid-changes : ChangesFile shape mid new n was renames.is
+  mid-changes : ChangesFileRecord shape mid new n was renames.is
   mid-changes =
-      subst (λ (m : VirtualMap). ChangesFile shape mid m n was renames.is) new-twice
-      (subst (λ (m : VirtualMap). ChangesFile shape m (running_over mid r) n was renames.is) mid-twice
+      subst (λ (m : VirtualMap). ChangesFileRecord shape mid m n was renames.is) new-twice
+      (subst (λ (m : VirtualMap). ChangesFileRecord shape m (running_over mid r) n was renames.is) mid-twice
       (file-changes shape bounds mid tag to was q r mid-clean twice-right twice-file spelled physical hand renames))
 
   mid-pointer : ChangesPointer shape mid new n tag.index was renames.is
@@ -111,7 +111,7 @@ module _ {D : Type 0} (g : Ghosts D) (s : D) (p : Pages) (bounds : ShapeBounds (
   unfolding bytes_of_node
   bytes-mid m h = ap (λ (o : Option (List ℕ)). slot_in 256 (m % 16) (unwrap_or o [])) (on.needed (67 + m / 16) (inl (inode-address shape m h)))
 
-  old-changes : ChangesFile shape old new n was renames.is
+  old-changes : ChangesFileRecord shape old new n was renames.is
   old-changes = record {
     node_before = has.file.is_node;
     file_before = mid-changes.file_before;
@@ -172,12 +172,12 @@ module _ {D : Type 0} (g : Ghosts D) (s : D) (p : Pages) (bounds : ShapeBounds (
     pages = both p q r (loaded p q (loads-on g s p t q on)) changes-pages;
   }
     where
-      changes-pages : ChangesPages q r
-      changes-pages = subst (ChangesPages q) (sym page-rewritten.page) (changed q (page_holding tag was) page-rewritten.bytes (inl page-rewritten.there))
+      changes-pages : ChangesRunningPages q r
+      changes-pages = subst (ChangesRunningPages q) (sym page-rewritten.page) (changed q (page_holding tag was) page-rewritten.bytes (inl page-rewritten.there))
 
   -- ---- the volume runs on
 
-  mid-runs : Runs g t q
+  mid-runs : RunningIsRight g t q
   mid-runs = runs-then g s p t q bounds on runs
 
   shapes : g.shape s ≡ g.shape t
@@ -211,7 +211,7 @@ module _ {D : Type 0} (g : Ghosts D) (s : D) (p : Pages) (bounds : ShapeBounds (
           same : inode_at new m ≡ inode_at mid m
           same = inode-other m off within
 
-  pub runs-on : Runs g t r
+  pub runs-on : RunningIsRight g t r
   runs-on = record {
     count = count (page_holding tag was) q r page-rewritten ∙ mid-runs.count;
     nodes = subst (λ (m : Shape). NodesRight m new) shapes right.nodes;

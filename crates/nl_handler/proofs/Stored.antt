@@ -11,19 +11,19 @@ use Rattle.nl_meta.specs.Nodes.{pointer_at}
 use Rattle.nl_meta.specs.Pages.{Pages, page_of}
 use Rattle.nl_meta.specs.Running.{CleanIsStored, running_over}
 use Rattle.nl_indirect.specs.Ranges.{slot_of}
-use Rattle.nl_indirect.specs.Storing.{Begins, Stores}
+use Rattle.nl_indirect.specs.Storing.{BeginsRange, Stores}
 use Rattle.nl_indirect.specs.declared.answer.Stored.{Stored}
 use Rattle.nl_indirect.specs.declared.answer.Stored.TheVariants.{Done, Emptied}
 use Rattle.nl_indirect.proofs.Cases.{to-some}
 use Rattle.nl_indirect.proofs.Pointing.{address-node, address-range, in-range, no-page}
-use Rattle.nl_handler.specs.Changing.{IsAtHand}
+use Rattle.nl_handler.specs.Changing.{TaggedPointerIsResident}
 
 -- the resident pages as a device
 pub self : (p : Pages) → CleanIsStored (page_of p) p
 self p = record { each = λ u bytes there clean frozen. there }
 
 -- an index with a pointer has a page, or the node has it
-pub begins-not : (p : Pages) (tag : Tag) (rec : InodeRec) (to : Option Pointer) → IsAtHand p tag rec → Begins rec tag.index to → ⊥
+pub begins-not : (p : Pages) (tag : Tag) (rec : InodeRec) (to : Option Pointer) → TaggedPointerIsResident p tag rec → BeginsRange rec tag.index to → ⊥
 begins-not p tag rec to h b = both_ways (is_none_pointer (pointer_at (page_of p) rec tag.index)) h.some (ap is_none_pointer none)
   where
     none : pointer_at (page_of p) rec tag.index ≡ no_pointer

@@ -12,7 +12,7 @@ use Rattle.nl_meta.specs.Nodes.{pointer_at}
 use Rattle.nl_meta.specs.Pages.{Pages, page_of}
 
 -- The page of the node is resident, and so is the page that has the pointer where the tag says; there is a pointer.
-pub record IsAtHand (p : Pages) (tag : Tag) (rec : InodeRec) : Type 0 where
+pub record TaggedPointerIsResident (p : Pages) (tag : Tag) (rec : InodeRec) : Type 0 where
   pub node : IsSome (page_of p (page_of_node tag.ino))
   pub file : IsFileRecord rec
   pub range : HasRange (page_of p) rec tag.index

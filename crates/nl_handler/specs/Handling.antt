@@ -17,9 +17,9 @@ use Rattle.nl_meta.specs.Consistent.{IsNode}
 use Rattle.nl_meta.specs.Nodes.{pointer_at, slots_of}
 use Rattle.nl_meta.specs.Pages.{Pages, has_room, page_of, with_address}
 use Rattle.nl_meta.specs.PointerLists.{ChangesPointer}
-use Rattle.nl_meta.specs.Steps.{ChangesPages}
-use Rattle.nl_meta_running.specs.FileLaws.{ChangesFile}
-use Rattle.nl_meta_running.specs.Running.{RunsOn, running_on}
+use Rattle.nl_meta.specs.Steps.{ChangesRunningPages}
+use Rattle.nl_meta_running.specs.FileLaws.{ChangesFileRecord}
+use Rattle.nl_meta_running.specs.Running.{PreservesRunning, running_on}
 use Rattle.nl_meta_running.specs.declared.answer.Stop.{Stop}
 use Rattle.nl_meta_running.specs.declared.answer.Stop.TheVariants as stop
 use Rattle.nl_handler.specs.declared.answer.Handled.{Handled}
@@ -67,7 +67,7 @@ pub record RenamesPointer (shape : Shape) (old new : VirtualMap) (tag : Tag) (st
   pub was : InodeRec
   pub is : InodeRec
   pub had : HasTagged shape old tag stamp was
-  pub changes : ChangesFile shape old new tag.ino was is
+  pub changes : ChangesFileRecord shape old new tag.ino was is
   pub pointer : ChangesPointer shape old new tag.ino tag.index was is
   pub size : is.size ≡ was.size
   pub addresses : (r : ℕ) → slice_index (slots_of is) r ≡ slice_index (slots_of was) r
@@ -85,7 +85,7 @@ pub record RenamesOn {D : Type 0} (g : Ghosts D) (s : D) (p : Pages) (t : D) (q 
   pub dirty : q.dirty ≡ with_address (page_holding tag renames.was) p.dirty
   pub stays : (v : ℕ) → v ≢ page_holding tag renames.was → IsSome (page_of p v) → page_of q v ≡ page_of p v
   -- pages may have become resident too
-  pub pages : ChangesPages p q
+  pub pages : ChangesRunningPages p q
 
 -- the page of the pointer, which the metadata has, cannot be made dirty
 abbrev pub CannotBeDirty : Shape → VirtualMap → Pages → Tag → ℕ → Type 0
@@ -94,10 +94,10 @@ CannotBeDirty shape pages p tag stamp = (rec : InodeRec) × HasTagged shape page
 -- How a callback was handled that the metadata may have. Where nothing was renamed, the volume is as it was.
 abbrev pub HandlesStored : {D : Type 0} → Ghosts D → D → Pages → D → Pages → Tag → ℕ → ℕ → Handled → Type 0
 HandlesStored g s p t q tag stamp name handled.Renamed = RenamesOn g s p t q tag stamp name
-HandlesStored g s p t q tag stamp name handled.Gone = (HoldsTagged (g.shape s) (running_on g s p) tag stamp → ⊥) × RunsOn g s p t q
-HandlesStored g s p t q tag stamp name handled.NoRoom = CannotBeDirty (g.shape s) (running_on g s p) p tag stamp × RunsOn g s p t q
-HandlesStored g s p t q tag stamp name handled.Fault = RunsOn g s p t q
-HandlesStored g s p t q tag stamp name (handled.Lost w f) = RunsOn g s p t q
+HandlesStored g s p t q tag stamp name handled.Gone = (HoldsTagged (g.shape s) (running_on g s p) tag stamp → ⊥) × PreservesRunning g s p t q
+HandlesStored g s p t q tag stamp name handled.NoRoom = CannotBeDirty (g.shape s) (running_on g s p) p tag stamp × PreservesRunning g s p t q
+HandlesStored g s p t q tag stamp name handled.Fault = PreservesRunning g s p t q
+HandlesStored g s p t q tag stamp name (handled.Lost w f) = PreservesRunning g s p t q
 
 -- what ended it early
 abbrev pub handled_stop : Handled → Option Stop

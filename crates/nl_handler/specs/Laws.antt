@@ -6,14 +6,14 @@ use Rattle.nl_field.specs.declared.shape.Shape.{Shape}
 use Rattle.nl_flight.specs.Flight.{InFlight, carried, renamed, renamed_pointer}
 use Rattle.nl_spec_holders.specs.Lists.{Renames, SameBehind}
 use Rattle.nl_iface.specs.Holders.{Holders, IsHeld, plain, tagged, times, wants, wants_tagged}
-use Rattle.nl_iface.specs.Names.{Has, IsTable, led}
+use Rattle.nl_iface.specs.Names.{Has, IsTableOfNames, led}
 use Rattle.nl_iface.specs.declared.Callback.{Callback}
 use Rattle.nl_iface.specs.declared.counts.Counts.{Ghosts}
 use Rattle.nl_meta.specs.Committed.{VirtualMap}
 use Rattle.nl_meta.specs.Pages.{Pages}
 use Rattle.nl_meta.specs.PointerLists.{tagged_in}
-use Rattle.nl_meta.specs.Steps.{ChangesPages}
-use Rattle.nl_meta_running.specs.Running.{Runs, running_on}
+use Rattle.nl_meta.specs.Steps.{ChangesRunningPages}
+use Rattle.nl_meta_running.specs.Running.{RunningIsRight, running_on}
 use Rattle.nl_handler.specs.Handling.{HandlesStored, IsElsewhere, RenamesPointer}
 use Rattle.nl_handler.specs.declared.answer.Handled.{Handled}
 use Rattle.nl_handler.specs.declared.answer.Handled.TheVariants as handled
@@ -45,7 +45,7 @@ abbrev pub holders_on : {D : Type 0} → Ghosts D → D → Pages → List InFli
 holders_on g s p flight freeing = record { running = tagged_in (g.shape s) (running_on g s p); flight = carried flight; freeing = freeing }
 
 -- what the call says of the metadata
-pub record Handles {D : Type 0} (g : Ghosts D) (s : D) (p : Pages) (t : D) (q : Pages) (flight : List InFlight) (freeing : List Pointer)
+pub record HandlerAnswers {D : Type 0} (g : Ghosts D) (s : D) (p : Pages) (t : D) (q : Pages) (flight : List InFlight) (freeing : List Pointer)
     (c : Callback) (answer : Handled) : Type 0 where
   pub elsewhere : IsElsewhere c.stamp flight freeing → (answer ≡ handled.Renamed) × (q ≡ p) × (t ≡ s)
   pub stored : (IsElsewhere c.stamp flight freeing → ⊥) → HandlesStored g s p t q c.tag c.stamp (led (g.names s) c.before) answer
@@ -62,8 +62,8 @@ pub record HandledHolders {D : Type 0} (g : Ghosts D) (s : D) (p : Pages) (t : D
 abbrev pub HandlerKeeps : {D : Type 0} → Ghosts D → Type 0
 HandlerKeeps {D} g =
     (s : D) (p : Pages) (t : D) (q : Pages) (flight : List InFlight) (freeing : List Pointer) (c : Callback) (answer : Handled)
-    → Runs g s p → IsTable (g.names s) → IsHeld (g.names s) (holders_on g s p flight freeing) → Has (g.names s).pending c
-    → Handles g s p t q flight freeing c answer → HandledHolders g s p t q c answer
+    → RunningIsRight g s p → IsTableOfNames (g.names s) → IsHeld (g.names s) (holders_on g s p flight freeing) → Has (g.names s).pending c
+    → HandlerAnswers g s p t q flight freeing c answer → HandledHolders g s p t q c answer
 
 -- ---- the pages in memory
 
@@ -71,4 +71,4 @@ HandlerKeeps {D} g =
 abbrev pub HandlerChangesPages : {D : Type 0} → Ghosts D → Type 0
 HandlerChangesPages {D} g =
     (s : D) (p : Pages) (t : D) (q : Pages) (tag : Tag) (stamp name : ℕ) (answer : Handled) → HandlesStored g s p t q tag stamp name answer
-    → ChangesPages p q
+    → ChangesRunningPages p q

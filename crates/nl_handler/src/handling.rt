@@ -3,8 +3,8 @@ ghost use Rattle.std.specs.Prelude.{◌≡◌, ◌<◌, ◌⊎◌, true, map};
 ghost use Rattle.nl_field.specs.Live.{resolve};
 ghost use Rattle.nl_flight.specs.Flight.{has_stamp, renamed, renamed_pointer};
 ghost use Rattle.nl_iface.specs.Names.{Has};
-ghost use Rattle.nl_meta_running.specs.Reading.{Reads};
-ghost use Rattle.nl_meta_running.specs.Running.{Runs};
+ghost use Rattle.nl_meta_running.specs.Reading.{ReadsExplainStop};
+ghost use Rattle.nl_meta_running.specs.Running.{RunningIsRight};
 ghost use Rattle.nl_handler.specs.Handling.{HandlesStored, IsElsewhere, handled_stop, list_has};
 
 use crate::answer::Handled;
@@ -29,11 +29,11 @@ pub fn handle<D: NamedPages>(
     freeing: &mut PointerList,
 ) -> Handled
     requires formed { D.formed device.old }
-    requires runs { Runs D.Counts device.old meta.old }
+    requires runs { RunningIsRight D.Counts device.old meta.old }
     requires pending { Has (D.names device.old).pending callback.now }
     requires shape { shape.now ≡ D.shape device.old }
     ensures formed { D.formed device.new }
-    ensures runs { Runs D.Counts device.new meta.new }
+    ensures runs { RunningIsRight D.Counts device.new meta.new }
     ensures flight { flight.new ≡ renamed callback.now.stamp (resolve (D.names device.old).pairs callback.now.before) flight.old }
     ensures freeing { freeing.new ≡ record { items = map (renamed_pointer callback.now.stamp (resolve (D.names device.old).pairs callback.now.before)) freeing.old.items; room = freeing.old.room } }
     ensures nodes { nodes.new ≡ nodes.old }
@@ -42,7 +42,7 @@ pub fn handle<D: NamedPages>(
     ensures stored { (IsElsewhere callback.now.stamp flight.old freeing.old.items → ⊥)
         → HandlesStored D.Counts device.old meta.old device.new meta.new callback.now.tag callback.now.stamp
         (resolve (D.names device.old).pairs callback.now.before) result }
-    ensures reads { Reads D.Counts device.old device.new (handled_stop result) }
+    ensures reads { ReadsExplainStop D.Counts device.old device.new (handled_stop result) }
 {
     let to = device.resolve(callback.before);
     let flies = flight.rename(callback.stamp, to);

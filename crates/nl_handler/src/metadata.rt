@@ -10,9 +10,9 @@ ghost use Rattle.nl_meta.specs.Committed.{VirtualMap};
 ghost use Rattle.nl_meta.specs.Nodes.{pointer_at};
 ghost use Rattle.nl_meta.specs.Pages.{has_room, page_of};
 ghost use Rattle.nl_meta.specs.Running.{running_over};
-ghost use Rattle.nl_meta_running.specs.Reading.{Reads, stop_of};
-ghost use Rattle.nl_meta_running.specs.Running.{Runs, RunsOn, running_on};
-ghost use Rattle.nl_handler.specs.Changing.{IsAtHand, RenamesIn};
+ghost use Rattle.nl_meta_running.specs.Reading.{ReadsExplainStop, stop_of};
+ghost use Rattle.nl_meta_running.specs.Running.{RunningIsRight, PreservesRunning, running_on};
+ghost use Rattle.nl_handler.specs.Changing.{TaggedPointerIsResident, RenamesIn};
 ghost use Rattle.nl_handler.specs.Handling.{HandlesStored, HasTagged, HoldsTagged, IsTagged, TagsFile, handled_stop, is_of, page_holding};
 
 use crate::answer::Handled;
@@ -33,15 +33,15 @@ pub(crate) fn rename_stored<D: NamedPages>(
     to: u32,
 ) -> Handled
     requires formed { D.formed device.old }
-    requires runs { Runs D.Counts device.old meta.old }
+    requires runs { RunningIsRight D.Counts device.old meta.old }
     requires pending { Has (D.names device.old).pending callback.now }
     requires to { to ≡ resolve (D.names device.old).pairs callback.now.before }
     requires shape { shape.now ≡ D.shape device.old }
     ensures formed { D.formed device.new }
-    ensures runs { Runs D.Counts device.new meta.new }
+    ensures runs { RunningIsRight D.Counts device.new meta.new }
     ensures nodes { nodes.new ≡ nodes.old }
     ensures stored { HandlesStored D.Counts device.old meta.old device.new meta.new callback.now.tag callback.now.stamp to result }
-    ensures reads { Reads D.Counts device.old device.new (handled_stop result) }
+    ensures reads { ReadsExplainStop D.Counts device.old device.new (handled_stop result) }
 {
     if callback.tag.ino >= shape.nodes {
         return Handled::Gone;
@@ -74,15 +74,15 @@ fn find<D: NamedPages>(
     stamp: u64,
 ) -> Result<Option<InodeRec>, Stop>
     requires formed { D.formed device.old }
-    requires runs { Runs D.Counts device.old meta.old }
+    requires runs { RunningIsRight D.Counts device.old meta.old }
     requires within { tag.now.ino < (D.shape device.old).nodes }
     ensures formed { D.formed device.new }
-    ensures kept { RunsOn D.Counts device.old meta.old device.new meta.new }
-    ensures reads { Reads D.Counts device.old device.new (stop_of result) }
+    ensures kept { PreservesRunning D.Counts device.old meta.old device.new meta.new }
+    ensures reads { ReadsExplainStop D.Counts device.old device.new (stop_of result) }
     ensures found { IfOk result (λ o. MatchOption o
         (HoldsTagged (D.shape device.old) (running_on D.Counts device.old meta.old) tag.now stamp → ⊥)
         (λ rec. HasTagged (D.shape device.old) (running_on D.Counts device.old meta.old) tag.now stamp rec
-        × IsAtHand meta.new tag.now rec × IsTrue (is_stamp stamp))) }
+        × TaggedPointerIsResident meta.new tag.now rec × IsTrue (is_stamp stamp))) }
 {
     let rec = match file_at(device, meta, nodes, tag) {
         Ok(Some(rec)) => rec,
@@ -109,11 +109,11 @@ fn file_at<D: NamedPages>(
     tag: &Tag,
 ) -> Result<Option<InodeRec>, Stop>
     requires formed { D.formed device.old }
-    requires runs { Runs D.Counts device.old meta.old }
+    requires runs { RunningIsRight D.Counts device.old meta.old }
     requires within { tag.now.ino < (D.shape device.old).nodes }
     ensures formed { D.formed device.new }
-    ensures kept { RunsOn D.Counts device.old meta.old device.new meta.new }
-    ensures reads { Reads D.Counts device.old device.new (stop_of result) }
+    ensures kept { PreservesRunning D.Counts device.old meta.old device.new meta.new }
+    ensures reads { ReadsExplainStop D.Counts device.old device.new (stop_of result) }
     ensures file { IfOk result (λ o. MatchOption o
         ((rec : InodeRecOf) → TagsFile (D.shape device.old) (running_on D.Counts device.old meta.old) tag.now rec → ⊥)
         (TagsFile (D.shape device.old) (running_on D.Counts device.old meta.old) tag.now)) }
@@ -149,11 +149,11 @@ fn hold_range<D: NamedPages>(
     rec: &InodeRec,
 ) -> Result<(), Stop>
     requires formed { D.formed device.old }
-    requires runs { Runs D.Counts device.old meta.old }
+    requires runs { RunningIsRight D.Counts device.old meta.old }
     requires file { TagsFile (D.shape device.old) (running_on D.Counts device.old meta.old) tag.now rec.now }
     ensures formed { D.formed device.new }
-    ensures kept { RunsOn D.Counts device.old meta.old device.new meta.new }
-    ensures reads { Reads D.Counts device.old device.new (stop_of result) }
+    ensures kept { PreservesRunning D.Counts device.old meta.old device.new meta.new }
+    ensures reads { ReadsExplainStop D.Counts device.old device.new (stop_of result) }
     ensures there { IfOk result (λ u. HasRange (page_of meta.new) rec.now tag.now.index) }
 {
     let address = page_address(rec, tag.index);
@@ -178,7 +178,7 @@ fn has_stamp(meta: &Meta, tag: &Tag, rec: &InodeRec, stamp: u64) -> bool
 /// The pointer of a file where a tag says gets another name. False, and nothing changed, exactly where the page that has it cannot be
 /// made dirty.
 fn rename(meta: &mut Meta, nodes: &mut Nodes, rec: &InodeRec, tag: &Tag, to: Pointer) -> bool
-    requires at_hand { IsAtHand meta.old tag.now rec.now }
+    requires at_hand { TaggedPointerIsResident meta.old tag.now rec.now }
     requires within { tag.now.index < 4104 }
     requires spelled { IsTrue (is_stamp to.stamp) }
     ensures room { result ≡ has_room meta.old (page_holding tag.now rec.now) }

@@ -6,7 +6,7 @@ use Rattle.nl_iface.specs.Stored.{NamedPage, Stored}
 use Rattle.nl_iface.specs.declared.Callback.{Callback}
 
 -- A page was programmed: it holds this, and it did not before.
-pub record Programs (n : NamedPage) (p : ℕ) (old c : Stored) : Type 0 where
+pub record NewlyHolds (n : NamedPage) (p : ℕ) (old c : Stored) : Type 0 where
   pub holds : c.named p ≡ Some n
   pub did_not : old.named p ≡ Some n → ⊥
 
@@ -14,7 +14,7 @@ pub record Programs (n : NamedPage) (p : ℕ) (old c : Stored) : Type 0 where
 pub record InventsName (name : ℕ) (old c : Stored) : Type 0 where
   pub page : ℕ
   pub holds : NamedPage
-  pub programs : Programs holds page old c
+  pub programs : NewlyHolds holds page old c
   pub invented : page ≢ name
 
 -- A live page is elsewhere than before, and no callback was posted.

@@ -8,16 +8,16 @@ use Rattle.nl_iface.specs.Stored.{Stored}
 use Rattle.nl_iface.specs.declared.counts.Counts.{Ghosts}
 
 -- a block of this kind is the victim now
-abbrev pub Takes : (ℕ → Type 0) → Option ℕ → Type 0
-Takes kind now = (block : ℕ) × kind block × (now ≡ Some block)
+abbrev pub TakesVictimOf : (ℕ → Type 0) → Option ℕ → Type 0
+TakesVictimOf kind now = (block : ℕ) × kind block × (now ≡ Some block)
 
 -- The victim is that of before; or none was in hand, and a block of this kind is.
 abbrev pub StaysOrTakes : (ℕ → Type 0) → Option ℕ → Option ℕ → Type 0
-StaysOrTakes kind was now = (now ≡ was) ⊎ ((was ≡ None) × Takes kind now)
+StaysOrTakes kind was now = (now ≡ was) ⊎ ((was ≡ None) × TakesVictimOf kind now)
 
 -- None is in hand, the pairs are few, and a block is Free: a victim can be begun, where there is one.
-abbrev pub CanBegin : Space → Type 0
-CanBegin s = (s.victim ≡ 0) × (s.pairs ≤ 2 * s.block) × (1 ≤ s.free)
+abbrev pub CanBeginVictim : Space → Type 0
+CanBeginVictim s = (s.victim ≡ 0) × (s.pairs ≤ 2 * s.block) × (1 ≤ s.free)
 
 -- Each page of the block is blank, and holds nothing.
 abbrev pub IsWiped : (blank : ℕ → Type 0) (pages block : ℕ) → Stored → Type 0

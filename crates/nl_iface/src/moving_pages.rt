@@ -2,10 +2,10 @@
 ghost use Rattle.std.specs.Prelude.{◌≡◌, ◌≢◌, ◌↔◌, ◌⊎◌, ◌+◌, ◌≤◌, ℕ, Option, Some, None, IfNone, IfSome, cond, is_some, true, false};
 ghost use Rattle.nl_field.specs.CrashStates.{Rose, saturated};
 ghost use Rattle.nl_iface.specs.Calls.{CallCounted, KeepsMedium, OnlyReads, stored};
-ghost use Rattle.nl_iface.specs.Moves.{Acknowledges, Begins, Copies, EraseFails, ErasesAtStops, ErasesVictim, FailsToCopy, HasCopied, HasNothingToCopy, IsUnhandled, KeepsCleaning, LeavesErased, LeavesMove, Marks, MovesPage};
+ghost use Rattle.nl_iface.specs.Moves.{Acknowledges, BeginsVictim, Copies, EraseFails, ErasesAtCrashes, ErasesVictim, FailsToCopy, HasCopied, HasNothingToCopy, IsUnhandled, KeepsCleaning, LeavesErased, LeavesMove, MarksHandled, MovesPage};
 ghost use Rattle.nl_iface.specs.Names.{Has, LivePage, leads};
 ghost use Rattle.nl_iface.specs.Space.{CanLand};
-ghost use Rattle.nl_iface.specs.Victims.{CanBegin, CopyTicks, IsWiped, StaysOrTakes, Takes, WritesCounted};
+ghost use Rattle.nl_iface.specs.Victims.{CanBeginVictim, CopyTicks, IsWiped, StaysOrTakes, TakesVictimOf, WritesCounted};
 ghost use Rattle.nl_iface.specs.declared.Callback.{Callback as CallbackOf};
 
 use crate::Callback;
@@ -33,10 +33,10 @@ pub trait MovingPages: NamedPages {
     fn level(&mut self) -> bool
         requires formed { Self.formed self.old }
         ensures formed { Self.formed self.new }
-        ensures begun { result ≡ true → Begins Self.Counts self.old self.new }
-        ensures chosen { result ≡ true → Takes (coldest self.old) (victim self.new) }
+        ensures begun { result ≡ true → BeginsVictim Self.Counts self.old self.new }
+        ensures chosen { result ≡ true → TakesVictimOf (coldest self.old) (victim self.new) }
         ensures none { result ≡ false → OnlyReads Self.Counts self.old self.new }
-        ensures exactly { result ≡ true ↔ (CanBegin (Self.names self.old).space × ((block : ℕ) × coldest self.old block)) }
+        ensures exactly { result ≡ true ↔ (CanBeginVictim (Self.names self.old).space × ((block : ℕ) × coldest self.old block)) }
         ensures read_faults { Self.read_faults self.new ≡ Self.read_faults self.old };
 
     /// Takes the block with the most dead pages as the victim where none is in hand, moves one live page of the victim with its
@@ -77,7 +77,7 @@ pub trait MovingPages: NamedPages {
         ensures same { (result ≡ Erasing.Done → ⊥) → (Self.names self.new ≡ Self.names self.old) × (victim self.new ≡ victim self.old) }
         ensures now { Self.tells → result ≡ Erasing.Fault
             → LeavesErased (Self.names self.old) (Self.bytes self.old) (stored Self.Counts self.old) (stored Self.Counts self.new) }
-        ensures left { Self.tells → ErasesAtStops Self.Counts self.old self.new }
+        ensures left { Self.tells → ErasesAtCrashes Self.Counts self.old self.new }
         ensures kept { KeepsCleaning Self.Counts self.old self.new }
         ensures clock { (result ≡ Erasing.Done → Self.clock self.new ≡ saturated (Self.clock self.old + 1))
             × ((result ≡ Erasing.Done → ⊥) → Self.clock self.new ≡ Self.clock self.old) }
@@ -105,7 +105,7 @@ pub trait MovingPages: NamedPages {
         requires formed { Self.formed self.old }
         ensures formed { Self.formed self.new }
         ensures marked { result ≡ true
-            → (c : CallbackOf) × (c.number ≡ number) × Marks c transaction (Self.names self.old) (Self.names self.new) }
+            → (c : CallbackOf) × (c.number ≡ number) × MarksHandled c transaction (Self.names self.old) (Self.names self.new) }
         ensures none { result ≡ false → (c : CallbackOf) → Has (Self.names self.old).pending c → c.number ≢ number }
         ensures same { result ≡ false → Self.names self.new ≡ Self.names self.old }
         ensures kept { KeepsMedium Self.Counts self.old self.new }

@@ -6,7 +6,7 @@ use Rattle.nl_nand.specs.Nand.{CrashLeaves, ticked}
 use Rattle.nl_nand.specs.declared.answers.WriteAnswer.{WriteAnswer}
 use Rattle.nl_nand.specs.declared.answers.WriteAnswer.TheVariants as write
 use Rattle.nl_imgfile.specs.declared.file_nand.FileNand.{FileNand}
-use Rattle.nl_imgfile.specs.FileMedium.{clock_of, contents_of, left_of}
+use Rattle.nl_imgfile.specs.FileMedium.{clock_of, contents_of, file_crash_states}
 
 one_more : (m clock now : ℕ) → clock ≤ now → now ≤ clock + 1 → m ≤ now → (m ≤ clock) ⊎ (m ≡ now)
 one_more m clock now later near within = ⊎_elim (λ same. inr same) (λ below. inl (omega (arith, below, near))) (eq-or-lt_of_le {n = m} {m = now} within)
@@ -15,7 +15,7 @@ ticked_near : (clock : ℕ) (answer : WriteAnswer) → ticked clock answer ≤ c
 ticked_near clock write.Done = omega arith
 ticked_near clock write.Failed = omega arith
 
-pub crash_leaves : (low high : ℕ) (value : Page) (old new : FileNand) (answer : WriteAnswer) → clock_of old ≤ clock_of new → clock_of new ≡ ticked (clock_of old) answer → CrashLeaves clock_of contents_of left_of low high value old new
+pub crash_leaves : (low high : ℕ) (value : Page) (old new : FileNand) (answer : WriteAnswer) → clock_of old ≤ clock_of new → clock_of new ≡ ticked (clock_of old) answer → CrashLeaves clock_of contents_of file_crash_states low high value old new
 crash_leaves low high value old new answer later clock =
     let near : clock_of new ≤ clock_of old + 1 = rw clock (ticked_near (clock_of old) answer) in
     record {

@@ -28,5 +28,5 @@ abbrev pub contents_of : FileNand → Image
 contents_of f = untold
 
 -- what a crash may have left, which is told no more
-abbrev pub left_of : FileNand → ℕ → Image → Type 0
-left_of f m c = (m ≤ f.clock) × (c ≡ untold)
+abbrev pub file_crash_states : FileNand → ℕ → Image → Type 0
+file_crash_states f m c = (m ≤ f.clock) × (c ≡ untold)

@@ -133,9 +133,9 @@ impl Nand for FileNand {
     ghost use Rattle.std.specs.Prelude.{◌≡◌, ◌⊎◌, ◌+◌, ◌*◌, ◌<◌, ◌≤◌, IsTrue, refl};
     ghost use Rattle.nl_field.specs.Page.{erased, written};
     ghost use Rattle.nl_field.specs.Numbers.{is_legal};
-    ghost use Rattle.nl_nand.specs.Nand.{Reads, FaultsCounted, OnlyReads, OperationCounted, CrashLeaves, block_start, block_end};
+    ghost use Rattle.nl_nand.specs.Nand.{ReadsMediumPage, FaultsCounted, MediumOnlyRead, OperationCounted, CrashLeaves, block_start, block_end};
     ghost use Rattle.nl_imgfile.specs.PageRecord.{erased_record, written_record, page_of};
-    ghost use Rattle.nl_imgfile.specs.FileMedium.{geometry_of, clock_of, read_faults_of, write_faults_of, record_of, contents_of, left_of};
+    ghost use Rattle.nl_imgfile.specs.FileMedium.{geometry_of, clock_of, read_faults_of, write_faults_of, record_of, contents_of, file_crash_states};
     ghost use Rattle.nl_nand.specs.RecordLaws as laws;
     ghost use Rattle.nl_imgfile.specs.FileLaws.{now_left as now_may_be_left};
 
@@ -151,7 +151,7 @@ impl Nand for FileNand {
 
     ghost write_faults = { write_faults_of };
 
-    ghost left = { left_of };
+    ghost left = { file_crash_states };
 
     ghost legal = { λ s. laws.legal (geometry_of s) s.legal };
 
@@ -206,8 +206,8 @@ impl Nand for FileNand {
     /// Reads the page's record. Where the file is too short for it, the read fails.
     fn read(&mut self, page: u32, buf: &mut PageBuf) -> ReadAnswer
         requires { page < (geometry_of self.old).blocks * (geometry_of self.old).pages }
-        ensures told { (result ≡ ReadAnswer.Failed) ⊎ Reads (page_of (record_of self.new)) buf.new result }
-        ensures only_reads { OnlyReads geometry_of contents_of clock_of write_faults_of left_of self.old self.new }
+        ensures told { (result ≡ ReadAnswer.Failed) ⊎ ReadsMediumPage (page_of (record_of self.new)) buf.new result }
+        ensures only_reads { MediumOnlyRead geometry_of contents_of clock_of write_faults_of file_crash_states self.old self.new }
         ensures read_faults { FaultsCounted (read_faults_of self.old) (read_faults_of self.new) (result ≡ ReadAnswer.Failed) }
     {
         match read_record(&self.file, position_of(page), &mut self.buffer, page) {
@@ -223,7 +223,7 @@ impl Nand for FileNand {
     fn program(&mut self, page: u32, from: &PageBuf) -> WriteAnswer
         requires { page < (geometry_of self.old).blocks * (geometry_of self.old).pages }
         ensures record { record_of self.new ≡ written_record from.now }
-        ensures crash { CrashLeaves clock_of contents_of left_of page (page + 1) (written from.now) self.old self.new }
+        ensures crash { CrashLeaves clock_of contents_of file_crash_states page (page + 1) (written from.now) self.old self.new }
         ensures counted { OperationCounted geometry_of clock_of read_faults_of write_faults_of self.old self.new result }
     {
         self.buffer.set_written(from);
@@ -235,7 +235,7 @@ impl Nand for FileNand {
     fn erase(&mut self, block: u32) -> WriteAnswer
         requires { block < (geometry_of self.old).blocks }
         ensures record { record_of self.new ≡ erased_record }
-        ensures crash { CrashLeaves clock_of contents_of left_of (block_start (geometry_of self.old) block)
+        ensures crash { CrashLeaves clock_of contents_of file_crash_states (block_start (geometry_of self.old) block)
             (block_end (geometry_of self.old) block) erased self.old self.new }
         ensures counted { OperationCounted geometry_of clock_of read_faults_of write_faults_of self.old self.new result }
     {

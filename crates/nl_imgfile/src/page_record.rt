@@ -2,7 +2,7 @@
 ghost use Rattle.std.specs.Prelude.{◌≡◌, ◌≤◌, ◌+◌, ◌++◌, length, take, drop};
 ghost use Rattle.nl_field.specs.Page.{written};
 ghost use Rattle.nl_field.specs.Spelling.{u64_at};
-ghost use Rattle.nl_nand.specs.Nand.{Reads};
+ghost use Rattle.nl_nand.specs.Nand.{ReadsMediumPage};
 ghost use Rattle.nl_imgfile.specs.PageRecord.{erased_record, written_record, page_of};
 
 use crate::layout::{RECORD, STATE};
@@ -79,7 +79,7 @@ impl PageRecord {
 
     /// What a read of the page with this record answers. The buffer holds the page where it is written.
     pub fn page_into(&self, buf: &mut PageBuf) -> ReadAnswer
-        ensures page { Reads (page_of self.now) buf.new result }
+        ensures page { ReadsMediumPage (page_of self.now) buf.new result }
         ensures never_fails { result ≡ ReadAnswer.Failed → ⊥ }
     {
         decode(&self.bytes, buf)
@@ -106,7 +106,7 @@ fn put(out: &mut [u8], at: usize, bytes: &[u8])
 
 fn decode(bytes: &[u8], buf: &mut PageBuf) -> ReadAnswer
     requires { length bytes.now ≡ 4168 }
-    ensures page { Reads (page_of bytes.now) buf.new result }
+    ensures page { ReadsMediumPage (page_of bytes.now) buf.new result }
     ensures never_fails { result ≡ ReadAnswer.Failed → ⊥ }
 {
     let state = state_in(bytes);

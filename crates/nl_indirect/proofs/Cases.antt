@@ -10,13 +10,13 @@ use Rattle.nl_field.specs.declared.inode.InodeRec.{InodeRec}
 use Rattle.nl_field.specs.declared.pointer.Pointer.{Pointer}
 use Rattle.nl_meta.specs.Committed.{VirtualMap}
 use Rattle.nl_meta.specs.Pages.{Pages, besides_0, page_of}
-use Rattle.nl_meta.specs.Running.{CleanIsStored, RunsWith, running_over}
+use Rattle.nl_meta.specs.Running.{CleanIsStored, SetsRunningPage, running_over}
 use Rattle.nl_meta.specs.SlotLaws.{with_slot}
 use Rattle.nl_meta.specs.Steps.{Freshens, with_dirty}
 use Rattle.nl_meta.proofs.Lists.{none_some}
 use Rattle.nl_meta.proofs.RunningProofs.{running_map}
 use Rattle.nl_indirect.specs.Ranges.{HasOther, HasPointers, IsFileRecord, address_of, pointer_in, range_of, slot_of}
-use Rattle.nl_indirect.specs.Storing.{Answers, HasNewPage, IsForNew, KeepsRecord, Stores, StoresPointer, or_none}
+use Rattle.nl_indirect.specs.Storing.{AnswersStored, HasNewPage, IsForNew, KeepsRecord, Stores, StoresPointer, or_none}
 use Rattle.nl_indirect.specs.declared.answer.Stored.{Stored}
 use Rattle.nl_indirect.specs.declared.answer.Stored.TheVariants.{Done, Emptied}
 use Rattle.nl_indirect.proofs.Fresh.{new-page, one-more}
@@ -89,7 +89,7 @@ module _ (was : InodeRec) (file : IsFileRecord was) (index : ℕ) (within : inde
 
   -- no page changes
   no-change : (is : InodeRec) (to : Pointer) (answer : Stored) → fresh ≡ None → address_of is index ≡ 0
-      → ((device : VirtualMap) → StoresPointer index to was is (running_over device old) (running_over device old)) → IsFileRecord is → KeepsRecord index was is → Answers index fresh was is answer
+      → ((device : VirtualMap) → StoresPointer index to was is (running_over device old) (running_over device old)) → IsFileRecord is → KeepsRecord index was is → AnswersStored index fresh was is answer
       → Stores index to fresh was is old old answer
   no-change is to answer none nought pointers file kept answered = record {
     pointers = λ device clean. pointers device;
@@ -149,7 +149,7 @@ module _ (was : InodeRec) (file : IsFileRecord was) (index : ℕ) (within : inde
           a-below : get_or was.addresses (range_of index) 0 < length old.running
           a-below = inside old (get_or was.addresses (range_of index) 0) bytes is
 
-          changed : (device : VirtualMap) → CleanIsStored device old → RunsWith a (slotted bytes) device old new
+          changed : (device : VirtualMap) → CleanIsStored device old → SetsRunningPage a (slotted bytes) device old new
           changed device clean = (running_map device old clean).changed a (slotted bytes) a-below
 
           range : HasPointers (page_of new) a
@@ -195,10 +195,10 @@ module _ (was : InodeRec) (file : IsFileRecord was) (index : ℕ) (within : inde
           address : address_of (with-address was (range_of index) a) index ≡ a
           address = address-with was file index high within a
 
-          first : (device : VirtualMap) → CleanIsStored device old → RunsWith a (zeros 4096) device old blank
+          first : (device : VirtualMap) → CleanIsStored device old → SetsRunningPage a (zeros 4096) device old blank
           first device clean = (running_map device old clean).freshened a blank is
 
-          second : (device : VirtualMap) → CleanIsStored device old → RunsWith a bytes device blank next
+          second : (device : VirtualMap) → CleanIsStored device old → SetsRunningPage a bytes device blank next
           second device clean = (running_map device blank (first device clean).clean).changed a bytes a-below
 
           range : HasPointers (page_of next) a

@@ -22,9 +22,9 @@ use Rattle.nl_meta.specs.Pages.{Pages, page_of}
 use Rattle.nl_meta.specs.Running.{running_over}
 use Rattle.nl_meta.proofs.AddressProofs.{inode_spelled}
 use Rattle.nl_meta.proofs.Lists.{some_in}
-use Rattle.nl_indirect.specs.FileLaws.{AddressesGood, FileOfNode, GivesBack, HoldsPointer, ResidentPointers, OtherNodes, StoredFile, StoresOver}
+use Rattle.nl_indirect.specs.FileLaws.{AddressesGood, FileOfNode, GivesBackRange, HoldsPointer, ResidentPointers, OtherNodes, StoredFile, StoresOver}
 use Rattle.nl_indirect.specs.Ranges.{HasPointers, HasRange, address_of, pointer_in, range_of, slot_of, some_pointer}
-use Rattle.nl_indirect.specs.Storing.{Answers, DiffersInPage, StoresPointer, or_none}
+use Rattle.nl_indirect.specs.Storing.{AnswersStored, DiffersInPage, StoresPointer, or_none}
 use Rattle.nl_indirect.specs.declared.answer.Stored.{Stored}
 use Rattle.nl_indirect.specs.declared.answer.Stored.TheVariants.{Done, Emptied}
 use Rattle.nl_indirect.proofs.Cases.{to-some}
@@ -163,7 +163,7 @@ module _ (shape : Shape) (device : VirtualMap) (index : ℕ) (to : Option Pointe
       in-the-pool : (67 + shape.inode_pages ≤ slice_index (slots_of is) (range_of index)) × (slice_index (slots_of is) (range_of index) < shape.vaddrs)
       in-the-pool = by answer over.stores.answered fresh refl over.pool
         where
-          by : (s : Stored) → Answers index fresh was is s → (f : Option ℕ) → fresh ≡ f → IfSome f (λ a. (67 + shape.inode_pages ≤ a) × (a < shape.vaddrs))
+          by : (s : Stored) → AnswersStored index fresh was is s → (f : Option ℕ) → fresh ≡ f → IfSome f (λ a. (67 + shape.inode_pages ≤ a) × (a < shape.vaddrs))
               → (67 + shape.inode_pages ≤ slice_index (slots_of is) (range_of index)) × (slice_index (slots_of is) (range_of index) < shape.vaddrs)
           by (Emptied b) h f e pool = absurd (far (sym (address-range is index high) ∙ h.2))
           by Done h (Some b) e pool =
@@ -237,12 +237,12 @@ module _ (shape : Shape) (device : VirtualMap) (index : ℕ) (to : Option Pointe
 
   -- ---- pages that are given back
 
-  given-back : 8 ≤ index → AddressesGood shape (running_over device old) was → GivesBack index was is (running_over device old) (running_over device new) answer
+  given-back : 8 ≤ index → AddressesGood shape (running_over device old) was → GivesBackRange index was is (running_over device old) (running_over device new) answer
   given-back high good = record {
     emptied = λ a e.
-        let h = subst (λ (s : Stored). Answers index fresh was is s) e over.stores.answered in
+        let h = subst (λ (s : Stored). AnswersStored index fresh was is s) e over.stores.answered in
         (before.0 (λ z. h.0 (sym h.1 ∙ z)), λ held. later.1 held h.2);
-    done = λ e held. later.0 (kept (subst (λ (s : Stored). Answers index fresh was is s) e over.stores.answered) fresh refl over.pool (before.1 held));
+    done = λ e held. later.0 (kept (subst (λ (s : Stored). AnswersStored index fresh was is s) e over.stores.answered) fresh refl over.pool (before.1 held));
   }
     where
       before : (address_of was index ≢ 0) ↔ HoldsPointer (running_over device old) was index

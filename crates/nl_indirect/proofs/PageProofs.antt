@@ -9,11 +9,11 @@ use Rattle.nl_meta.specs.Nodes.{slots_of}
 use Rattle.nl_meta.specs.PageLaws.{IsApart}
 use Rattle.nl_meta.specs.Pages.{Pages, page_of}
 use Rattle.nl_meta.specs.SlotLaws.{with_slot}
-use Rattle.nl_meta.specs.Steps.{ChangesPages}
+use Rattle.nl_meta.specs.Steps.{ChangesRunningPages}
 use Rattle.nl_meta.proofs.PageProofs.{changed, changes-one, none}
 use Rattle.nl_indirect.specs.PageLaws.{StoringChangesPages, TruncatingChangesPages}
 use Rattle.nl_indirect.specs.Ranges.{HasRange, address_of, range_of, slot_of}
-use Rattle.nl_indirect.specs.Storing.{Answers, HasNewPage}
+use Rattle.nl_indirect.specs.Storing.{AnswersStored, HasNewPage}
 use Rattle.nl_indirect.specs.declared.answer.Stored.{Stored}
 use Rattle.nl_indirect.specs.declared.answer.Stored.TheVariants.{Done, Emptied}
 use Rattle.nl_indirect.proofs.Pointing.{address-node, address-range}
@@ -30,17 +30,17 @@ may-be old was index a range (inl same) = by (cases_eq a 0)
 pub storing_changes_pages : StoringChangesPages
 storing_changes_pages index to fresh was is old new answer range far stores = by fresh refl (cases_eq (address_of is index) 0)
   where
-    before : (f : Option ℕ) → f ≡ None → (r : Stored) → Answers index f was is r → (address_of is index ≡ address_of was index) ⊎ (address_of is index ≡ 0)
+    before : (f : Option ℕ) → f ≡ None → (r : Stored) → AnswersStored index f was is r → (address_of is index ≡ address_of was index) ⊎ (address_of is index ≡ 0)
     before f e Done h = inl (h ∙ ap (λ (o : Option ℕ). unwrap_or o (address_of was index)) e)
     before f e (Emptied a) h = inr h.2
 
-    taken : (f : Option ℕ) (v : ℕ) → f ≡ Some v → IfSome f IsApart → (r : Stored) → Answers index f was is r → IsApart (address_of is index)
+    taken : (f : Option ℕ) (v : ℕ) → f ≡ Some v → IfSome f IsApart → (r : Stored) → AnswersStored index f was is r → IsApart (address_of is index)
     taken f v e h Done s = subst IsApart (sym (s ∙ ap (λ (o : Option ℕ). unwrap_or o (address_of was index)) e)) (subst (λ (o : Option ℕ). IfSome o IsApart) e h)
     taken f v e h (Emptied a) s = inl s.2
 
-    by : (f : Option ℕ) → fresh ≡ f → (address_of is index ≡ 0) ⊎ (address_of is index ≢ 0) → ChangesPages old new
-    by None e (inl at) = subst (ChangesPages old) (sym (stores.pages.same at)) (none old)
-    by None e (inr at) = subst (ChangesPages old) (sym (stores.pages.written at e))
+    by : (f : Option ℕ) → fresh ≡ f → (address_of is index ≡ 0) ⊎ (address_of is index ≢ 0) → ChangesRunningPages old new
+    by None e (inl at) = subst (ChangesRunningPages old) (sym (stores.pages.same at)) (none old)
+    by None e (inr at) = subst (ChangesRunningPages old) (sym (stores.pages.written at e))
         (changed old (address_of is index) (with_slot 16 (slot_of index) (pointer_bytes to) (unwrap_or (page_of old (address_of is index)) []))
         (may-be old was index (address_of is index) range (before fresh e answer stores.answered)))
     by (Some v) e at = changes-one old (address_of is index) new new-page.keeps.frozen new-page.dirty new-page.keeps.others (λ there. ap is_some new-page.page) (inr (taken fresh v e far answer stores.answered))
@@ -73,8 +73,8 @@ truncating_changes_pages from was is old new range cuts = by (cases_eq (address_
         at (inl e) = inl (address-range is from (in-range far) ∙ e ∙ sym (address-range was from (in-range far)))
         at (inr e) = inr (address-range is from (in-range far) ∙ e)
 
-    by : (address_of is from ≡ 0) ⊎ (address_of is from ≢ 0) → ChangesPages old new
-    by (inl at) = subst (ChangesPages old) (sym (cuts.pages.same at)) (none old)
+    by : (address_of is from ≡ 0) ⊎ (address_of is from ≢ 0) → ChangesRunningPages old new
+    by (inl at) = subst (ChangesRunningPages old) (sym (cuts.pages.same at)) (none old)
     by (inr at) =
         let w = cuts.pages.written at in
-        subst (ChangesPages old) (sym w.2) (changed old (address_of is from) w.0 (may-be old was from (address_of is from) (range (behind at)) (same at)))
+        subst (ChangesRunningPages old) (sym w.2) (changed old (address_of is from) w.0 (may-be old was from (address_of is from) (range (behind at)) (same at)))

@@ -13,7 +13,7 @@ use Rattle.nl_meta.specs.PointerLists.{ChangesPointer, tagged_by}
 use Rattle.nl_meta.specs.Running.{running_over}
 use Rattle.nl_indirect.specs.FileLaws.{AddressesGood, NodeLaws, OnePointerStored, StoresAt}
 use Rattle.nl_indirect.specs.Ranges.{address_of, range_of}
-use Rattle.nl_indirect.specs.Storing.{Answers, StoresPointer, or_none}
+use Rattle.nl_indirect.specs.Storing.{AnswersStored, StoresPointer, or_none}
 use Rattle.nl_indirect.specs.declared.answer.Stored.{Stored}
 use Rattle.nl_indirect.specs.declared.answer.Stored.TheVariants.{Done, Emptied}
 use Rattle.nl_indirect.proofs.LawProofs.{at-slot, file_of_node, stored_file}
@@ -54,7 +54,7 @@ module _ (shape : Shape) (device : VirtualMap) (n index : ℕ) (to : Option Poin
       held : slice_index (slots_of rec) r ≢ 0 → (a : ℕ) → slice_index (slots_of rec) r ≡ a → AddressAt shape (running_over device old) k r a
       held far a s = record { rec = rec; is_node = is-node; in_slot = at-slot (slots_of rec) r far ∙ ap (λ (v : ℕ). Some v) s; not_zero = λ z. far (s ∙ z) }
 
-      no : slice_index (slots_of rec) r ≢ 0 → (s : Stored) → Answers index fresh was is s → (f : Option ℕ) → fresh ≡ f → IfSome f (λ a. (m slot : ℕ) → AddressAt shape (running_over device old) m slot a → ⊥)
+      no : slice_index (slots_of rec) r ≢ 0 → (s : Stored) → AnswersStored index fresh was is s → (f : Option ℕ) → fresh ≡ f → IfSome f (λ a. (m slot : ℕ) → AddressAt shape (running_over device old) m slot a → ⊥)
           → (index < 8) ⊎ (8 ≤ index) → ⊥
       no far (Emptied b) h f g unused at = far (e ∙ h.2)
       no far Done h f g unused (inl low) = far (e ∙ address-node is index low)

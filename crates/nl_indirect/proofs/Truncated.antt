@@ -9,11 +9,11 @@ use Rattle.nl_field.specs.declared.inode.InodeRec.{InodeRec}
 use Rattle.nl_meta.specs.Committed.{VirtualMap}
 use Rattle.nl_meta.specs.Nodes.{pointer_at, pointer_in_page}
 use Rattle.nl_meta.specs.Pages.{Pages, page_of}
-use Rattle.nl_meta.specs.Running.{CleanIsStored, RunsWith, running_over}
+use Rattle.nl_meta.specs.Running.{CleanIsStored, SetsRunningPage, running_over}
 use Rattle.nl_meta.specs.Steps.{with_dirty}
 use Rattle.nl_meta.proofs.RunningProofs.{running_map}
 use Rattle.nl_indirect.specs.Ranges.{HasPointers, IsFileRecord, address_of, pointer_in, range_of, slot_of}
-use Rattle.nl_indirect.specs.Truncating.{CutsSlots, HasBefore, NoneBefore, TakesFrom, Truncates}
+use Rattle.nl_indirect.specs.Truncating.{CutsSlots, HasBefore, NoneBefore, TakesFrom, TruncatesPointers}
 use Rattle.nl_indirect.proofs.Cases.{inside}
 use Rattle.nl_indirect.proofs.Cut.{cut-gone, cut-indirect, cut-kept}
 use Rattle.nl_indirect.proofs.Fresh.{one-more}
@@ -114,7 +114,7 @@ module _ (rec : InodeRec) (n : ℕ) (most : n ≤ 16) (is : IsFileRecord rec) wh
 
 module _ (was : InodeRec) (file : IsFileRecord was) (from : ℕ) (old : Pages) where
   -- within the node
-  pub truncated-node : from < 8 → Truncates from was (cut-ranges (cut-direct was from) 0) old old
+  pub truncated-node : from < 8 → TruncatesPointers from was (cut-ranges (cut-direct was from) 0) old old
   truncated-node low = record {
     pointers = λ device clean. record {
       gone = λ i h. gone (running_over device old) i h (cases_lt i 8);
@@ -156,7 +156,7 @@ module _ (was : InodeRec) (file : IsFileRecord was) (from : ℕ) (old : Pages) w
 
   module _ (high : 8 ≤ from) (within : from ≤ 4104) where
     -- the range of the index goes too
-    pub truncated-whole : NoneBefore old was from → Truncates from was (cut-ranges was (range_of from)) old old
+    pub truncated-whole : NoneBefore old was from → TruncatesPointers from was (cut-ranges was (range_of from)) old old
     truncated-whole before = record {
       pointers = λ device clean. record {
         gone = λ i h. let k : 8 ≤ i = omega (arith, h, high) in in-range (running_over device old) is i k ∙ no-page (running_over device old) _ (slot_of i) (none (range_of i) (omega (arith, h, high)));
@@ -220,7 +220,7 @@ module _ (was : InodeRec) (file : IsFileRecord was) (from : ℕ) (old : Pages) w
       address : address_of is from ≡ here
       address = address-range is from high ∙ stays
 
-      changed : (device : VirtualMap) → CleanIsStored device old → RunsWith here cut device old new
+      changed : (device : VirtualMap) → CleanIsStored device old → SetsRunningPage here cut device old new
       changed device clean = (running_map device old clean).changed here cut (inside old here bytes there)
 
       module _ (device : VirtualMap) (clean : CleanIsStored device old) where
@@ -287,7 +287,7 @@ module _ (was : InodeRec) (file : IsFileRecord was) (from : ℕ) (old : Pages) w
       bytes-are : unwrap_or (page_of old here) [] ≡ bytes
       bytes-are = ap (λ (o : Option (List ℕ)). unwrap_or o []) there
 
-      pub truncated-within : Truncates from was (cut-ranges was (range_of from + 1)) old (with_dirty old (get_or was.addresses (range_of from) 0) cut)
+      pub truncated-within : TruncatesPointers from was (cut-ranges was (range_of from + 1)) old (with_dirty old (get_or was.addresses (range_of from) 0) cut)
       truncated-within = record {
         pointers = takes-within;
         clean = λ device clean. (changed device clean).clean;

@@ -52,7 +52,7 @@ pub record HoldsPointer (pages : VirtualMap) (rec : InodeRec) (index : ℕ) : Ty
   pub some : is_none_pointer (pointer_at pages rec at) ≡ false
 
 -- A page is told as given back exactly where the range lost its last pointer.
-pub record GivesBack (index : ℕ) (was is : InodeRec) (old new : VirtualMap) (answer : Stored) : Type 0 where
+pub record GivesBackRange (index : ℕ) (was is : InodeRec) (old new : VirtualMap) (answer : Stored) : Type 0 where
   pub emptied : (a : ℕ) → answer ≡ Emptied a → HoldsPointer old was index × (HoldsPointer new is index → ⊥)
   pub done : answer ≡ Done → HoldsPointer old was index → HoldsPointer new is index
 
@@ -62,7 +62,7 @@ pub record FileLaws (shape : Shape) (device : VirtualMap) (index : ℕ) (to : Op
   pub found : some_pointer (pointer_at (running_over device new) is index) ≡ to
   pub good : AddressesGood shape (running_over device old) was → AddressesGood shape (running_over device new) is
   pub given_back : 8 ≤ index → AddressesGood shape (running_over device old) was
-      → GivesBack index was is (running_over device old) (running_over device new) answer
+      → GivesBackRange index was is (running_over device old) (running_over device new) answer
 
 abbrev pub StoredFile : Type 0
 StoredFile =

@@ -9,7 +9,7 @@ use Rattle.nl_meta.specs.Nodes.{pointer_at, slots_of}
 use Rattle.nl_meta.specs.Pages.{Pages, besides_0, has_room, page_of, with_address}
 use Rattle.nl_meta.specs.Running.{CleanIsStored, running_over}
 use Rattle.nl_meta.specs.SlotLaws.{with_slot}
-use Rattle.nl_meta.specs.Steps.{Keeps, with_dirty}
+use Rattle.nl_meta.specs.Steps.{KeepsOtherPages, with_dirty}
 use Rattle.nl_indirect.specs.Ranges.{HasRange, IsFileRecord, address_of, range_of, slot_of}
 use Rattle.nl_indirect.specs.declared.answer.Stored.{Stored}
 use Rattle.nl_indirect.specs.declared.answer.Stored.TheVariants.{Done, Emptied}
@@ -19,7 +19,7 @@ abbrev pub or_none : Option Pointer → Pointer
 or_none to = unwrap_or to no_pointer
 
 -- The range of the index gets its first pointer.
-pub record Begins (rec : InodeRec) (index : ℕ) (to : Option Pointer) : Type 0 where
+pub record BeginsRange (rec : InodeRec) (index : ℕ) (to : Option Pointer) : Type 0 where
   pub in_range : 8 ≤ index
   pub no_page : address_of rec index ≡ 0
   pub pointer : IsSome to
@@ -51,10 +51,10 @@ pub record KeepsRecord (index : ℕ) (was is : InodeRec) : Type 0 where
 pub record HasNewPage (v : ℕ) (bytes : List ℕ) (old new : Pages) : Type 0 where
   pub page : page_of new v ≡ Some bytes
   pub dirty : new.dirty ≡ with_address v old.dirty
-  pub keeps : Keeps v old new
+  pub keeps : KeepsOtherPages v old new
 
 -- How the pages change. The page of the index is at address a after the call, and no page has the index where that is 0.
-pub record StoresPages (slot : ℕ) (to : Pointer) (fresh : Option ℕ) (a : ℕ) (old new : Pages) : Type 0 where
+pub record StoresOnePointer (slot : ℕ) (to : Pointer) (fresh : Option ℕ) (a : ℕ) (old new : Pages) : Type 0 where
   -- without a page none changes
   pub same : a ≡ 0 → new ≡ old
   -- a page that was there has the pointer in its slot, and is dirty
@@ -65,9 +65,9 @@ pub record StoresPages (slot : ℕ) (to : Pointer) (fresh : Option ℕ) (a : ℕ
   pub one_more : length (besides_0 new.dirty) ≤ length (besides_0 old.dirty) + 1
 
 -- The range's page is given back exactly where it had one and has none now. Else the range has the page that it had, or the new one.
-abbrev pub Answers : ℕ → Option ℕ → InodeRec → InodeRec → Stored → Type 0
-Answers index fresh was is Done = address_of is index ≡ unwrap_or fresh (address_of was index)
-Answers index fresh was is (Emptied a) = (a ≢ 0) × (address_of was index ≡ a) × (address_of is index ≡ 0)
+abbrev pub AnswersStored : ℕ → Option ℕ → InodeRec → InodeRec → Stored → Type 0
+AnswersStored index fresh was is Done = address_of is index ≡ unwrap_or fresh (address_of was index)
+AnswersStored index fresh was is (Emptied a) = (a ≢ 0) × (address_of was index ≡ a) × (address_of is index ≡ 0)
 
 pub record Stores (index : ℕ) (to : Pointer) (fresh : Option ℕ) (was is : InodeRec) (old new : Pages) (answer : Stored) : Type 0 where
   -- over any device the index has the pointer, and each other index and each other page what it had
@@ -80,6 +80,6 @@ pub record Stores (index : ℕ) (to : Pointer) (fresh : Option ℕ) (was is : In
   -- the range's page, where there is one, is resident and has a pointer
   pub range : HasRange (page_of new) is index
   -- the range's page alone was written
-  pub pages : StoresPages (slot_of index) to fresh (address_of is index) old new
+  pub pages : StoresOnePointer (slot_of index) to fresh (address_of is index) old new
   -- the answer tells the page that is given back
-  pub answered : Answers index fresh was is answer
+  pub answered : AnswersStored index fresh was is answer

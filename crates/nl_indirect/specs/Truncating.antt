@@ -60,7 +60,7 @@ pub record TruncatesPages (slot : ℕ) (a : ℕ) (old new : Pages) : Type 0 wher
   -- no second page becomes dirty
   pub one_more : length (besides_0 new.dirty) ≤ length (besides_0 old.dirty) + 1
 
-pub record Truncates (from : ℕ) (was is : InodeRec) (old new : Pages) : Type 0 where
+pub record TruncatesPointers (from : ℕ) (was is : InodeRec) (old new : Pages) : Type 0 where
   -- over any device the pointers from the index on are taken away, and each other index and each other page has what it had
   pub pointers : (device : VirtualMap) → CleanIsStored device old
       → TakesFrom from was is (running_over device old) (running_over device new)

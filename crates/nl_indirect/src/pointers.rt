@@ -10,7 +10,7 @@ ghost use Rattle.nl_meta.specs.Running.{running_over};
 ghost use Rattle.nl_meta.specs.SlotLaws.{with_slot};
 ghost use Rattle.nl_meta.specs.Steps.{Freshens, with_dirty};
 ghost use Rattle.nl_indirect.specs.Ranges.{HasRange, IsFileRecord, address_of, some_pointer};
-ghost use Rattle.nl_indirect.specs.Storing.{Begins, IsForNew, Stores, or_none};
+ghost use Rattle.nl_indirect.specs.Storing.{BeginsRange, IsForNew, Stores, or_none};
 
 use crate::answer::Stored;
 use crate::page::{has_other, read, some, write};
@@ -72,7 +72,7 @@ pub fn store(
     requires range { HasRange (page_of meta.old) rec.old index }
     requires room { address_of rec.old index ≢ 0 → has_room meta.old (address_of rec.old index) ≡ true }
     requires to { IfSome to (λ p. IsTrue (is_stamp p.stamp)) }
-    requires begins { IsSome fresh ↔ Begins rec.old index to }
+    requires begins { IsSome fresh ↔ BeginsRange rec.old index to }
     requires fresh { IfSome fresh (λ a. IsForNew meta.old rec.old a) }
     ensures { Stores index (or_none to) fresh rec.old rec.new meta.old meta.new result }
 {

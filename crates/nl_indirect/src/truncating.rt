@@ -5,7 +5,7 @@ ghost use Rattle.nl_field.specs.declared.inode.InodeRec.{InodeRec as Rec};
 ghost use Rattle.nl_meta.specs.Pages.{has_room, page_of};
 ghost use Rattle.nl_meta.specs.Steps.{with_dirty};
 ghost use Rattle.nl_indirect.specs.Ranges.{HasRange, IsFileRecord, address_of, slot_of};
-ghost use Rattle.nl_indirect.specs.Truncating.{CutsSlots, NoneBefore, StaysBefore, Truncates};
+ghost use Rattle.nl_indirect.specs.Truncating.{CutsSlots, NoneBefore, StaysBefore, TruncatesPointers};
 
 use crate::page::{clear_from, has_before};
 use nl_field::{InodeRec, Pointer};
@@ -24,7 +24,7 @@ pub fn truncate(rec: &mut InodeRec, meta: &mut Meta, from: u32)
     requires file { IsFileRecord rec.old }
     requires range { slot_of from ≢ 0 → HasRange (page_of meta.old) rec.old from }
     requires room { slot_of from ≢ 0 → address_of rec.old from ≢ 0 → has_room meta.old (address_of rec.old from) ≡ true }
-    ensures { Truncates from rec.old rec.new meta.old meta.new }
+    ensures { TruncatesPointers from rec.old rec.new meta.old meta.new }
 {
     if from < DIRECT {
         drop_direct(rec, from as usize);

@@ -12,7 +12,7 @@ use Rattle.nl_meta.specs.Nodes.{inode_at}
 use Rattle.nl_meta.proofs.Lists.{some_in}
 use Rattle.nl_meta.proofs.SlotProofs.{one_slot}
 use Rattle.nl_inode.specs.Free.{is_free}
-use Rattle.nl_inode.specs.FreeLaws.{FreeIsUnused, NodeIs, NodesAreFree, PoolIsFree, Uses, UsesOthers}
+use Rattle.nl_inode.specs.FreeLaws.{FreeIsUnused, NodeIs, NodesAreFree, PoolIsFree, UsesAddress, UsesOthers}
 use Rattle.nl_inode.specs.Nodes.{AddressBecomes, Spaces, is_free_address, is_free_node, page_of_node}
 
 same-node : (n : ℕ) (rec : InodeRec) (old new : VirtualMap) → NodeIs n rec old new → (m : ℕ) → m ≢ n → inode_at new m ≡ inode_at old m
@@ -49,7 +49,7 @@ module _ (shape : Shape) (old new : VirtualMap) where
           ((λ f. other.0 (was.0 (sym (same m far) ∙ f))), (λ none. same m far ∙ was.1 (other.1 none)))
 
   pool : (a : ℕ) (s t : Spaces) → PoolIsFree shape old s → s.first ≤ a → (b : Bool) → AddressBecomes a b s t → UsesOthers shape a old new
-      → ((b ≡ true) ↔ (Uses shape new a → ⊥)) → PoolIsFree shape new t
+      → ((b ≡ true) ↔ (UsesAddress shape new a → ⊥)) → PoolIsFree shape new t
   pool a s t are from b becomes others at = record {
     first = becomes.first ∙ are.first;
     each = λ c above below. by c (subst (λ (f : ℕ). f ≤ c) becomes.first above) below (cases_eq c a);
@@ -64,8 +64,8 @@ module _ (shape : Shape) (old new : VirtualMap) where
       apart : (c : ℕ) → s.first ≤ c → c ≢ a → c - s.first ≢ a - s.first
       apart c h far e = far (omega (arith, h, from, e))
 
-      by : (c : ℕ) → s.first ≤ c → c < shape.vaddrs → (c ≡ a) ⊎ (c ≡ a → ⊥) → (is_free_address t c ≡ true) ↔ (Uses shape new c → ⊥)
-      by c h below (inl e) = subst (λ (k : ℕ). (is_free_address t k ≡ true) ↔ (Uses shape new k → ⊥)) (sym e) (
+      by : (c : ℕ) → s.first ≤ c → c < shape.vaddrs → (c ≡ a) ⊎ (c ≡ a → ⊥) → (is_free_address t c ≡ true) ↔ (UsesAddress shape new c → ⊥)
+      by c h below (inl e) = subst (λ (k : ℕ). (is_free_address t k ≡ true) ↔ (UsesAddress shape new k → ⊥)) (sym e) (
         (λ f. at.0 (sym becomes.pool.at ∙ sym (index a from) ∙ f)),
         (λ none. index a from ∙ becomes.pool.at ∙ at.1 none),
       )

@@ -4,8 +4,8 @@ use Rattle.std.proofs.Math.ListN.{set}
 use Rattle.std.proofs.Math.Nat.{mul-le-mul_left, pow-suc}
 use Rattle.std.proofs.lemmas.Bool.{cases_eq, cases_lt, or_parts, both_ways}
 use Rattle.std.proofs.lemmas.List.{get_or-set_same, get_or-set_other, length-set, get_or-take, get_or-drop, length-take-le, length-drop, length-replicate}
-use Rattle.nl_inode.specs.Free.{Becomes, IsLeast, NoneFree, is_free}
-use Rattle.nl_inode.specs.Tree.{HoldsAt, IsFirstIn, IsTree, MarksBelow, MarksBelowBut, SameLeaves, mark_at}
+use Rattle.nl_inode.specs.Free.{Becomes, IsLeastFreeNumber, NoneFree, is_free}
+use Rattle.nl_inode.specs.Tree.{HoldsAt, IsFirstIn, IsFreeBitTree, MarksBelow, MarksBelowBut, SameLeaves, mark_at}
 
 pub twice : (h : ℕ) → 2 ^ suc h ≡ 2 * 2 ^ h
 twice h = let e = pow-suc 2 h in omega (arith, e)
@@ -239,7 +239,7 @@ leaves-stay old tree node b same below = record {
 
 -- ---- the numbers
 
-module _ (tree : List Bool) (width height count : ℕ) (is : IsTree tree width height count) where
+module _ (tree : List Bool) (width height count : ℕ) (is : IsFreeBitTree tree width height count) where
   abbrev free : List Bool
   free = take count (drop width tree)
 
@@ -281,7 +281,7 @@ module _ (tree : List Bool) (width height count : ℕ) (is : IsTree tree width h
       by (inl h) = h
       by (inr h) = absurd (both_ways _ (ap (mark_at tree) (sym at) ∙ is.outside (leaf - width) h inside) first.set)
 
-  pub found-least : (leaf : ℕ) → IsFirstIn tree (1 * 2 ^ height) (2 ^ height) leaf → IsLeast (leaf - width) free
+  pub found-least : (leaf : ℕ) → IsFirstIn tree (1 * 2 ^ height) (2 ^ height) leaf → IsLeastFreeNumber (leaf - width) free
   found-least leaf first = record {
     free_itself = free-at (leaf - width) (found-below leaf first) ∙ ap (mark_at tree) at ∙ first.set;
     least = λ i h. free-at i (sooner i h (found-below leaf first)) ∙ first.first (width + i) (above i) (earlier i h);
@@ -308,7 +308,7 @@ module _ (tree : List Bool) (width height count : ℕ) (is : IsTree tree width h
   pub leaf-paired : (k : ℕ) → k < count → 2 * ((width + k) / 2) + 1 < length tree
   leaf-paired k h = let s = is.size in let f = is.fits in omega (arith, s, f, h)
 
-  pub put-tree : (k : ℕ) (b : Bool) (new : List Bool) → k < count → MarksBelow new → SameLeaves (set tree (width + k) b) new → IsTree new width height count
+  pub put-tree : (k : ℕ) (b : Bool) (new : List Bool) → k < count → MarksBelow new → SameLeaves (set tree (width + k) b) new → IsFreeBitTree new width height count
   put-tree k b new below marks same = record {
     size = same.size ∙ length-set tree (width + k) b ∙ is.size;
     power = is.power;
@@ -351,7 +351,7 @@ module _ (tree : List Bool) (width height count : ℕ) (is : IsTree tree width h
       by i far (inl h) = new-at i h ∙ get_or-set_other tree (width + k) (width + i) b false (apart i far) ∙ sym (free-at i h)
       by i far (inr h) = beyond (take count (drop width new)) i (subst (λ (n : ℕ). n ≤ i) (sym new-length) h) ∙ sym (free-none i h)
 
-pub clear-tree : (width height count : ℕ) → width ≡ 2 ^ height → count ≤ width → width ≤ 2 ^ 33 → count < 2 ^ 32 → IsTree (replicate (2 * width) false) width height count
+pub clear-tree : (width height count : ℕ) → width ≡ 2 ^ height → count ≤ width → width ≤ 2 ^ 33 → count < 2 ^ 32 → IsFreeBitTree (replicate (2 * width) false) width height count
 clear-tree width height count power fits small few = record {
   size = length-replicate (2 * width) false;
   power = power;

@@ -6,7 +6,7 @@ use Rattle.nl_iface.specs.declared.counts.Counts.{Ghosts}
 use Rattle.nl_meta.specs.PageLaws.{IsApart}
 use Rattle.nl_meta.specs.Pages.{Pages, page_of}
 use Rattle.nl_meta.specs.SlotLaws.{with_slot}
-use Rattle.nl_meta.specs.Steps.{ChangesPages}
+use Rattle.nl_meta.specs.Steps.{ChangesRunningPages}
 use Rattle.nl_meta.proofs.PageProofs.{admitted, calls_change_pages, changed, missed}
 use Rattle.nl_inode.specs.Fetching.{Fetches}
 use Rattle.nl_inode.specs.Nodes.{PutsNode, page_of_node}
@@ -15,12 +15,12 @@ use Rattle.nl_inode.specs.PageLaws.{NodesChangePages}
 high : (n : ℕ) → 67 ≤ page_of_node n
 high n = omega arith
 
-pub put_changes : (old new : Pages) (n : ℕ) (rec : InodeRec) → PutsNode n rec old new → ChangesPages old new
+pub put_changes : (old new : Pages) (n : ℕ) (rec : InodeRec) → PutsNode n rec old new → ChangesRunningPages old new
 put_changes old new n rec is =
-    subst (ChangesPages old) (sym is.page) (changed old (page_of_node n) (with_slot 256 (n % 16) (inode_bytes rec) (unwrap_or (page_of old (page_of_node n)) [])) (inr (inr (high n))))
+    subst (ChangesRunningPages old) (sym is.page) (changed old (page_of_node n) (with_slot 256 (n % 16) (inode_bytes rec) (unwrap_or (page_of old (page_of_node n)) [])) (inr (inr (high n))))
 
-fetched : (old new : Pages) (tells : Type 0) (stored : Option (List ℕ)) (v : ℕ) → IsApart v → Fetches tells stored v old new → ChangesPages old new
-fetched old new tells stored v far (inl there) = subst (ChangesPages old) (sym there.1) ((calls_change_pages old).touched v)
+fetched : (old new : Pages) (tells : Type 0) (stored : Option (List ℕ)) (v : ℕ) → IsApart v → Fetches tells stored v old new → ChangesRunningPages old new
+fetched old new tells stored v far (inl there) = subst (ChangesRunningPages old) (sym there.1) ((calls_change_pages old).touched v)
 fetched old new tells stored v far (inr (gone, bytes, is, admits)) = admitted old v bytes new far gone admits
 
 pub nodes_change_pages : {D : Type 0} (g : Ghosts D) → NodesChangePages g

@@ -12,7 +12,7 @@ abbrev pub count_free : List Bool → ℕ
 count_free free = count_by (λ b. b) free
 
 -- k is free, and no lesser number is.
-pub record IsLeast (k : ℕ) (free : List Bool) : Type 0 where
+pub record IsLeastFreeNumber (k : ℕ) (free : List Bool) : Type 0 where
   pub free_itself : is_free free k ≡ true
   pub least : (i : ℕ) → i < k → is_free free i ≡ false
 

@@ -14,13 +14,13 @@ pub record NodesAreFree (shape : Shape) (pages : VirtualMap) (s : Spaces) : Type
   pub each : (n : ℕ) → n < shape.nodes → (is_free_node s n ≡ true) ↔ ((rec : InodeRec) → IsNode shape pages n rec → ⊥)
 
 -- a used node has the address
-abbrev pub Uses : Shape → VirtualMap → ℕ → Type 0
-Uses shape pages a = (n : ℕ) × (slot : ℕ) × AddressAt shape pages n slot a
+abbrev pub UsesAddress : Shape → VirtualMap → ℕ → Type 0
+UsesAddress shape pages a = (n : ℕ) × (slot : ℕ) × AddressAt shape pages n slot a
 
 -- The free addresses of the pool are those that no used node has.
 pub record PoolIsFree (shape : Shape) (pages : VirtualMap) (s : Spaces) : Type 0 where
   pub first : s.first ≡ 67 + shape.inode_pages
-  pub each : (a : ℕ) → s.first ≤ a → a < shape.vaddrs → (is_free_address s a ≡ true) ↔ (Uses shape pages a → ⊥)
+  pub each : (a : ℕ) → s.first ≤ a → a < shape.vaddrs → (is_free_address s a ≡ true) ↔ (UsesAddress shape pages a → ⊥)
 
 -- Of two maps of pages one has this record at a node, and the same bytes of every other node.
 pub record NodeIs (n : ℕ) (rec : InodeRec) (old new : VirtualMap) : Type 0 where
@@ -29,7 +29,7 @@ pub record NodeIs (n : ℕ) (rec : InodeRec) (old new : VirtualMap) : Type 0 whe
 
 -- Every other address is used as before.
 abbrev pub UsesOthers : Shape → ℕ → VirtualMap → VirtualMap → Type 0
-UsesOthers shape a old new = (b : ℕ) → b ≢ a → Uses shape new b ↔ Uses shape old b
+UsesOthers shape a old new = (b : ℕ) → b ≢ a → UsesAddress shape new b ↔ UsesAddress shape old b
 
 pub record FreeLaws (shape : Shape) (old new : VirtualMap) (s t : Spaces) : Type 0 where
   -- a node was taken and is used
@@ -42,9 +42,9 @@ pub record FreeLaws (shape : Shape) (old new : VirtualMap) (s t : Spaces) : Type
   pub node_changed : (n : ℕ) (rec : InodeRec) → NodesAreFree shape old s → is_free_node s n ≡ false → NodeIs n rec old new
       → rec.kind ≢ Unused → NodesAreFree shape new s
   pub address_taken : (a : ℕ) → PoolIsFree shape old s → s.first ≤ a → AddressBecomes a false s t → UsesOthers shape a old new
-      → Uses shape new a → PoolIsFree shape new t
+      → UsesAddress shape new a → PoolIsFree shape new t
   pub address_given : (a : ℕ) → PoolIsFree shape old s → s.first ≤ a → AddressBecomes a true s t → UsesOthers shape a old new
-      → (Uses shape new a → ⊥) → PoolIsFree shape new t
+      → (UsesAddress shape new a → ⊥) → PoolIsFree shape new t
 
 abbrev pub FreeIsUnused : Type 0
 FreeIsUnused = (shape : Shape) (old new : VirtualMap) (s t : Spaces) → FreeLaws shape old new s t

@@ -28,7 +28,7 @@ pub record IsFirstIn (tree : List Bool) (from width leaf : ℕ) : Type 0 where
   pub first : (i : ℕ) → from ≤ i → i < leaf → mark_at tree i ≡ false
 
 -- A tree for so many numbers: its leaves from `width` on are theirs, and those behind are not set.
-pub record IsTree (tree : List Bool) (width height count : ℕ) : Type 0 where
+pub record IsFreeBitTree (tree : List Bool) (width height count : ℕ) : Type 0 where
   pub size : length tree ≡ 2 * width
   pub power : width ≡ 2 ^ height
   pub fits : count ≤ width

@@ -1,6 +1,6 @@
 //! A set of free numbers below a count, as a tree of marks in which the least free one is found on the way down.
 ghost use Rattle.std.specs.Prelude.{◌≡◌, ◌<◌, ◌≤◌, ◌+◌, ◌*◌, ◌/◌, ◌^◌, ◌||◌, ℕ, IfOk, MatchOption, true, false, length, slice_index_or, slice_set};
-ghost use Rattle.nl_inode.specs.Free.{Becomes, IsLeast, NoneFree, count_free, is_free};
+ghost use Rattle.nl_inode.specs.Free.{Becomes, IsLeastFreeNumber, NoneFree, count_free, is_free};
 ghost use Rattle.nl_inode.specs.Tree.{IsFirstIn, MarksBelow, MarksBelowBut, SameLeaves, mark_at};
 
 use nl_field::Memory;
@@ -19,13 +19,13 @@ pub(crate) struct FreeSet {
 
 impl Model for FreeSet {
     ghost use Rattle.std.specs.Prelude.{List, Bool, drop, take};
-    ghost use Rattle.nl_inode.specs.Tree.{IsTree};
+    ghost use Rattle.nl_inode.specs.Tree.{IsFreeBitTree};
 
     ghost Value = { List Bool };
 
     ghost view = { λ s. take s.count (drop s.width s.tree.items) };
 
-    ghost invariant = { λ s. IsTree s.tree.items s.width s.height s.count };
+    ghost invariant = { λ s. IsFreeBitTree s.tree.items s.width s.height s.count };
 }
 
 impl FreeSet {
@@ -62,7 +62,7 @@ impl FreeSet {
 
     /// Takes the least free number. None exactly where none is free.
     pub(crate) fn take(&mut self) -> Option<u32>
-        ensures least { MatchOption result (NoneFree self.old) (λ k. IsLeast k self.old) }
+        ensures least { MatchOption result (NoneFree self.old) (λ k. IsLeastFreeNumber k self.old) }
         ensures taken { MatchOption result (self.new ≡ self.old) (λ k. Becomes k false self.old self.new) }
     {
         match self.least() {
@@ -76,7 +76,7 @@ impl FreeSet {
 
     // The least free number.
     fn least(&self) -> Option<u32>
-        ensures least { MatchOption result (NoneFree self.now) (λ k. IsLeast k self.now) }
+        ensures least { MatchOption result (NoneFree self.now) (λ k. IsLeastFreeNumber k self.now) }
         ensures below { MatchOption result (NoneFree self.now) (λ k. k < length self.now) }
     {
         if self.tree[1] {

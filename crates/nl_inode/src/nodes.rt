@@ -5,7 +5,7 @@ ghost use Rattle.nl_field.specs.Numbers.{ShapeBounds};
 ghost use Rattle.nl_meta.specs.Nodes.{inode_at};
 ghost use Rattle.nl_meta.specs.Pages.{has_room, page_of};
 ghost use Rattle.nl_meta.specs.SlotLaws.{with_slot};
-ghost use Rattle.nl_inode.specs.Free.{IsLeast, NoneFree, count_free};
+ghost use Rattle.nl_inode.specs.Free.{IsLeastFreeNumber, NoneFree, count_free};
 ghost use Rattle.nl_inode.specs.Nodes.{AddressBecomes, IsLeastAddress, NodeBecomes, PutsNode, is_free_address, is_free_node, page_of_node, taken_as};
 
 use crate::free_set::FreeSet;
@@ -86,7 +86,7 @@ impl Nodes {
 
     /// Takes the least free node. None exactly where none is free.
     pub fn take_node(&mut self) -> Option<u32>
-        ensures least { MatchOption result (NoneFree self.old.nodes) (λ n. IsLeast n self.old.nodes) }
+        ensures least { MatchOption result (NoneFree self.old.nodes) (λ n. IsLeastFreeNumber n self.old.nodes) }
         ensures taken { MatchOption result (self.new ≡ self.old) (λ n. NodeBecomes n false self.old self.new) }
     {
         self.nodes.take()

@@ -1,7 +1,7 @@
 //! A sink in memory, for tests.
 ghost use Rattle.std.specs.Prelude.{◌≡◌, ◌≤◌, ◌<◌, ◌+◌, ◌⊎◌, ◌↔◌, [], Some, length, Contains, IfOk};
 ghost use Rattle.nl_field.specs.CrashStates.{Rose, saturated};
-ghost use Rattle.nl_io.specs.Streams.{Writes};
+ghost use Rattle.nl_io.specs.Streams.{WritesStream};
 
 use crate::{Sink, SinkAnswer};
 use nl_field::{FailList, Memory};
@@ -58,7 +58,7 @@ impl Sink for MemSink {
     ghost faults = { λ s. s.faults };
 
     fn write(&mut self, bytes: &[u8]) -> SinkAnswer
-        ensures bytes { Writes (Some self.old.taken) (Some self.new.taken) result bytes.now }
+        ensures bytes { WritesStream (Some self.old.taken) (Some self.new.taken) result bytes.now }
         ensures never_falls { self.old.faults ≤ self.new.faults }
         ensures cause { result ≡ SinkAnswer.Failed → Rose self.old.faults self.new.faults }
         ensures fails { (result ≡ SinkAnswer.Failed)

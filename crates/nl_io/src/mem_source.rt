@@ -1,7 +1,7 @@
 //! A source in memory, for tests.
 ghost use Rattle.std.specs.Prelude.{◌≡◌, ◌<◌, ◌≤◌, ◌+◌, ◌⊎◌, ◌↔◌, Some, length, Contains};
 ghost use Rattle.nl_field.specs.CrashStates.{Rose, saturated};
-ghost use Rattle.nl_io.specs.Streams.{Reads};
+ghost use Rattle.nl_io.specs.Streams.{ReadsStream};
 
 use crate::{Source, SourceAnswer};
 use nl_field::{FailList, Text};
@@ -54,7 +54,7 @@ impl Source for MemSource {
     // A read fails exactly where its number is in the list. The number stands still at 2^64 - 1.
     fn read(&mut self, out: &mut [u8]) -> SourceAnswer
         requires { 0 < length out.old }
-        ensures bytes { Reads (Some self.old.left) (Some self.new.left) result out.new }
+        ensures bytes { ReadsStream (Some self.old.left) (Some self.new.left) result out.new }
         ensures never_falls { self.old.faults ≤ self.new.faults }
         ensures cause { result ≡ SourceAnswer.Failed → Rose self.old.faults self.new.faults }
         ensures fails { (result ≡ SourceAnswer.Failed) ↔ Contains self.old.failing (saturated (self.old.calls + 1)) }

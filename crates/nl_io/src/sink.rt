@@ -1,7 +1,7 @@
 //! Where bytes are written to, and the answer of a write.
 ghost use Rattle.std.specs.Prelude.{◌≡◌, ◌≤◌, ℕ, List, Option};
 ghost use Rattle.nl_field.specs.CrashStates.{Rose};
-ghost use Rattle.nl_io.specs.Streams.{Writes};
+ghost use Rattle.nl_io.specs.Streams.{WritesStream};
 
 /// What a write answers.
 #[derive(Clone, Copy, Debug, PartialEq, Eq)]
@@ -22,7 +22,7 @@ pub trait Sink {
 
     /// Takes all bytes, or fails.
     fn write(&mut self, bytes: &[u8]) -> SinkAnswer
-        ensures bytes { Writes (taken self.old) (taken self.new) result bytes.now }
+        ensures bytes { WritesStream (taken self.old) (taken self.new) result bytes.now }
         ensures never_falls { faults self.old ≤ faults self.new }
         ensures cause { result ≡ SinkAnswer.Failed → Rose (faults self.old) (faults self.new) };
 

@@ -1,7 +1,7 @@
 //! Where bytes are read from, and the answer of a read.
 ghost use Rattle.std.specs.Prelude.{◌≡◌, ◌<◌, ◌≤◌, ℕ, List, Option, length};
 ghost use Rattle.nl_field.specs.CrashStates.{Rose};
-ghost use Rattle.nl_io.specs.Streams.{Reads};
+ghost use Rattle.nl_io.specs.Streams.{ReadsStream};
 
 /// What a read answers.
 #[derive(Clone, Copy, Debug, PartialEq, Eq)]
@@ -25,7 +25,7 @@ pub trait Source {
     /// Reads at least a byte, unless none is left.
     fn read(&mut self, out: &mut [u8]) -> SourceAnswer
         requires { 0 < length out.old }
-        ensures bytes { Reads (left self.old) (left self.new) result out.new }
+        ensures bytes { ReadsStream (left self.old) (left self.new) result out.new }
         ensures never_falls { faults self.old ≤ faults self.new }
         ensures cause { result ≡ SourceAnswer.Failed → Rose (faults self.old) (faults self.new) };
 

@@ -4,17 +4,17 @@ use Rattle.nl_field.specs.CrashStates.{Earlier}
 use Rattle.nl_field.specs.declared.shape.Shape.{Shape}
 use Rattle.nl_iface.specs.Calls.{StoresMap, stored}
 use Rattle.nl_iface.specs.Device.{IsVolumeShape}
-use Rattle.nl_iface.specs.Stored.{NoneBeyond, NoneFailed, Stored, Value}
+use Rattle.nl_iface.specs.Stored.{NothingStoredBeyond, NoneFailed, Stored, Value}
 use Rattle.nl_iface.specs.declared.counts.Counts.{Ghosts}
 use Rattle.nl_meta.specs.Committed.{VirtualMap}
 use Rattle.nl_meta.specs.Pages.{Frozen, Pages, none_frozen}
 use Rattle.nl_journal.specs.Committing.{aimed, committed_on, finished, finished_on, is_decided}
-use Rattle.nl_journal.specs.Left.{Commits, FinishWrites, LeavesRest, UnitWrites}
+use Rattle.nl_journal.specs.Left.{StoresCommitted, FinishWrites, LeavesRest, UnitWrites}
 use Rattle.nl_journal.specs.Outcomes.{Agrees}
 use Rattle.nl_journal.specs.Progress.{HasNumber, IsPhase, Progress, begun, begun_in, next, next_number_in, next_phase, units_left}
-use Rattle.nl_journal.specs.Standing.{InOrder}
+use Rattle.nl_journal.specs.Standing.{JournalInOrder}
 use Rattle.nl_journal.specs.Transaction.{IsTransaction, with_pages}
-use Rattle.nl_journal.specs.Units.{IsDone, frozen_after}
+use Rattle.nl_journal.specs.Units.{UnitIsDone, frozen_after}
 use Rattle.nl_journal.specs.declared.answers.Unit.{Unit as Answer}
 use Rattle.nl_journal.specs.declared.answers.Unit.TheVariants as unit
 use Rattle.nl_journal.specs.declared.answers.Phase.{Phase}
@@ -47,7 +47,7 @@ after_one (Home i) number count pages frozen now base some same = inl (refl, sam
 
 module _ {D : Type 0} (g : Ghosts D) where
   -- nothing is left, or the commit page is written
-  pub writes_none : (done : Type 0) (s : D) (p : Progress) (pages : Pages) → IsVolumeShape (g.shape s) → InOrder g s p pages.frozen
+  pub writes_none : (done : Type 0) (s : D) (p : Progress) (pages : Pages) → IsVolumeShape (g.shape s) → JournalInOrder g s p pages.frozen
       → ((p.phase ≡ Header) × (pages.frozen.addresses ≡ [])) ⊎ (is_decided p.phase ≡ true) → StoresMap g s
       → g.tells → HasNumber p (length pages.frozen.addresses) → FinishWrites g done p p pages pages s s
   writes_none done s p pages volume order still stores t numbers = record {
@@ -92,14 +92,14 @@ module _ {D : Type 0} (g : Ghosts D) where
     pub rest_by : (c : Stored) → LeavesRest (g.shape old).vaddrs (g.failed old) (stored g old) (stored g mid) → LeavesRest (g.shape mid).vaddrs (g.failed mid) (stored g mid) c
         → LeavesRest (g.shape old).vaddrs (g.failed old) (stored g old) c
     rest_by c first second = record {
-      beyond = subst (λ (h : Shape). NoneBeyond h.vaddrs c) same second.beyond;
+      beyond = subst (λ (h : Shape). NothingStoredBeyond h.vaddrs c) same second.beyond;
       firm = λ firm unfailed. second.firm (first.firm firm unfailed) (none_still unfailed);
       named = λ q. second.named q ∙ first.named q;
     }
 
   module _ (old mid : D) (same : g.shape mid ≡ g.shape old) where
-    pub commits_by : (f h : VirtualMap) (c : Stored) → Agrees (g.shape old).vaddrs f h → Commits (g.shape mid) f c → Commits (g.shape old) h c
-    commits_by f h c agrees is = commits_same (g.shape old) f h c agrees (subst (λ (s : Shape). Commits s f c) same is)
+    pub commits_by : (f h : VirtualMap) (c : Stored) → Agrees (g.shape old).vaddrs f h → StoresCommitted (g.shape mid) f c → StoresCommitted (g.shape old) h c
+    commits_by f h c agrees is = commits_same (g.shape old) f h c agrees (subst (λ (s : Shape). StoresCommitted s f c) same is)
 
     pub agrees_by : (e f h : VirtualMap) → Agrees (g.shape mid).vaddrs e f → Agrees (g.shape old).vaddrs f h → Agrees (g.shape old).vaddrs e h
     agrees_by e f h first second = agrees_then (g.shape old).vaddrs e f h (subst (λ (s : Shape). Agrees s.vaddrs e f) same first) second
@@ -194,7 +194,7 @@ some_frozen (Home i) pages at left = omega (arith, at)
 pub all_finished : (phase : Phase) (frozen : Frozen) → IsPhase phase (length frozen.addresses) → units_left phase (length frozen.addresses) ≤ 0 → (phase ≡ Header) × (frozen.addresses ≡ [])
 all_finished phase frozen at none = let e = nothing_left phase frozen at (omega (arith, none)) in (e.0, no_addresses frozen.addresses e.1)
 
-pub done_is : (r : Answer) → ((w f : ℕ) → r ≡ unit.Lost w f → ⊥) → (r ≡ unit.Fault → ⊥) → IsDone r
+pub done_is : (r : Answer) → ((w f : ℕ) → r ≡ unit.Lost w f → ⊥) → (r ≡ unit.Fault → ⊥) → UnitIsDone r
 done_is unit.Programmed a b = tt
 done_is (unit.Decided n) a b = tt
 done_is unit.AllHome a b = tt

@@ -9,7 +9,7 @@ use Rattle.nl_journal.specs.Outcomes.{Agrees}
 use Rattle.nl_journal.specs.Transaction.{place, with_pages}
 use Rattle.nl_journal.specs.Progress.{IsPhase, begun_in, next_number_in, next_phase, raised, units_left}
 use Rattle.nl_journal.specs.Committing.{aimed, finished, is_decided}
-use Rattle.nl_journal.specs.Left.{Commits, LeavesRest}
+use Rattle.nl_journal.specs.Left.{StoresCommitted, LeavesRest}
 use Rattle.nl_journal.specs.Units.{frozen_after}
 use Rattle.nl_journal.specs.declared.answers.Phase.{Phase}
 use Rattle.nl_journal.specs.declared.answers.Phase.TheVariants.{Header, Image, Commit, Home}
@@ -104,7 +104,7 @@ nothing_left Commit frozen at none = absurd (let no : ⊥ = omega (arith, none) 
 nothing_left (Home i) frozen at none = absurd (let no : ⊥ = omega (arith, none, at) in no)
 
 -- a write leaves what was committed, or all of the transaction
-pub aimed_or : (phase : Phase) (frozen : Frozen) (shape : Shape) (base : VirtualMap) (c : Stored) → Commits shape (aimed phase frozen base) c → Commits shape base c ⊎ Commits shape (finished phase frozen base) c
+pub aimed_or : (phase : Phase) (frozen : Frozen) (shape : Shape) (base : VirtualMap) (c : Stored) → StoresCommitted shape (aimed phase frozen base) c → StoresCommitted shape base c ⊎ StoresCommitted shape (finished phase frozen base) c
 aimed_or Header frozen shape base c is = inl is
 aimed_or (Image i) frozen shape base c is = inl is
 aimed_or Commit frozen shape base c is = inr is
@@ -112,7 +112,7 @@ aimed_or (Home i) frozen shape base c is = inl is
 
 -- the commit page was not written and is not, or the write leaves all of the transaction
 pub last_or : (phase : Phase) (frozen : Frozen) (shape : Shape) (base : VirtualMap)
-    → ((is_decided phase ≡ false) × (is_decided (next_phase phase (length frozen.addresses)) ≡ false)) ⊎ ((c : Stored) → Commits shape (aimed phase frozen base) c → Commits shape (finished phase frozen base) c)
+    → ((is_decided phase ≡ false) × (is_decided (next_phase phase (length frozen.addresses)) ≡ false)) ⊎ ((c : Stored) → StoresCommitted shape (aimed phase frozen base) c → StoresCommitted shape (finished phase frozen base) c)
 last_or Header frozen shape base = inl (refl, refl)
 last_or (Image i) frozen shape base = inl (refl, undecided_either (nat_lt (i + 1) (length frozen.addresses)) i)
 last_or Commit frozen shape base = inr (λ c is. is)
@@ -166,7 +166,7 @@ more_left phase next frozen now until some most at is before undecided =
     let many = many_left next (length now.addresses) (omega (arith, same, some)) at undecided in
     omega (arith, many, same, most)
 
-pub commits_same : (shape : Shape) (f g : VirtualMap) (c : Stored) → Agrees shape.vaddrs f g → Commits shape f c → Commits shape g c
+pub commits_same : (shape : Shape) (f g : VirtualMap) (c : Stored) → Agrees shape.vaddrs f g → StoresCommitted shape f c → StoresCommitted shape g c
 commits_same shape f g c same is v home = is v home ∙ same v home
 
 -- the rest, by what was there before the first call

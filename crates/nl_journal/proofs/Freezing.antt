@@ -6,7 +6,7 @@ use Rattle.nl_meta.specs.Committed.{VirtualMap}
 use Rattle.nl_meta.specs.Pages.{Frozen, Pages, dirty_pages}
 use Rattle.nl_journal.specs.Laws.{FreezesInOrder, FreezingStays}
 use Rattle.nl_journal.specs.Progress.{HasNumber, IsPhase, raised}
-use Rattle.nl_journal.specs.Standing.{Keeps}
+use Rattle.nl_journal.specs.Standing.{JournalMatchesMap}
 use Rattle.nl_journal.specs.Transaction.{place, with_pages}
 use Rattle.nl_journal.specs.declared.answers.Phase.{Phase}
 use Rattle.nl_journal.specs.declared.answers.Phase.TheVariants.{Header, Image, Commit, Home}
@@ -18,8 +18,8 @@ pub nothing_dirty : (pages : Pages) (base : VirtualMap) (v : ℕ) → pages.dirt
 nothing_dirty pages base v none = with_none (dirty_pages pages) base v none
 
 module _ {D : Type 0} (g : Ghosts D) where
-  stands : (s : D) (phase : Phase) (number : ℕ) (none frozen : Frozen) → phase ≡ Header → Keeps (g.shape s) (g.map s) (g.failed s) (record { number = number; phase = phase }) none
-      → Keeps (g.shape s) (g.map s) (g.failed s) (record { number = number; phase = phase }) frozen
+  stands : (s : D) (phase : Phase) (number : ℕ) (none frozen : Frozen) → phase ≡ Header → JournalMatchesMap (g.shape s) (g.map s) (g.failed s) (record { number = number; phase = phase }) none
+      → JournalMatchesMap (g.shape s) (g.map s) (g.failed s) (record { number = number; phase = phase }) frozen
   stands s Header number none frozen is k = k
   stands s (Image i) number none frozen is k = absurd (let no : ⊥ = cc in no)
   stands s Commit number none frozen is k = absurd (let no : ⊥ = cc in no)

@@ -5,7 +5,7 @@ use Rattle.nl_journal.specs.Laws.{StaysInOrder, StoredPages}
 use Rattle.nl_journal.specs.Outcomes.{Agrees, May, bytes_of}
 use Rattle.nl_journal.specs.Committing.{committed_now}
 use Rattle.nl_journal.specs.Progress.{HasNumber, number_in}
-use Rattle.nl_journal.specs.Standing.{Keeps, Stands}
+use Rattle.nl_journal.specs.Standing.{JournalMatchesMap, JournalInPhase}
 use Rattle.nl_journal.proofs.Addresses.{addresses_of}
 use Rattle.nl_journal.proofs.Moving.{certain_commits, either_commits, keeps_still}
 use Rattle.nl_journal.proofs.Writes.{within_shown}
@@ -24,10 +24,10 @@ module _ {D : Type 0} (g : Ghosts D) where
     record {
       phase = order.phase;
       pages = λ some. subst (λ n. IsTransaction n frozen) (ap (λ h. h.vaddrs) (sym kept.same_shape)) (order.pages some);
-      keeps = λ tells numbers. subst (λ h. Stands p.phase h (May (g.map t) (g.failed t)) (bytes_of (g.map t)) (committed_now h (g.map t)) (number_in p.phase p.number) frozen) (sym kept.same_shape) (still tells numbers).0;
+      keeps = λ tells numbers. subst (λ h. JournalInPhase p.phase h (May (g.map t) (g.failed t)) (bytes_of (g.map t)) (committed_now h (g.map t)) (number_in p.phase p.number) frozen) (sym kept.same_shape) (still tells numbers).0;
     },
     (λ tells numbers. subst (λ h. Agrees (g.shape s).vaddrs (committed_now h (g.map t)) (committed_now (g.shape s) (g.map s))) (sym kept.same_shape) (still tells numbers).1),
   )
     where
-      still : g.tells → HasNumber p (length frozen.addresses) → Keeps (g.shape s) (g.map t) (g.failed t) p frozen × Agrees (g.shape s).vaddrs (committed_now (g.shape s) (g.map t)) (committed_now (g.shape s) (g.map s))
+      still : g.tells → HasNumber p (length frozen.addresses) → JournalMatchesMap (g.shape s) (g.map t) (g.failed t) p frozen × Agrees (g.shape s).vaddrs (committed_now (g.shape s) (g.map t)) (committed_now (g.shape s) (g.map s))
       still tells numbers = keeps_still (g.shape s) (g.map s) (g.map t) (g.failed s) (g.failed t) p frozen order.phase order.pages (addresses_of (g.shape s) volume) (kept.same_map tells) (kept.no_failed tells) (order.keeps tells numbers)

@@ -17,8 +17,8 @@ use Rattle.nl_meta.specs.Pages.{Frozen}
 use Rattle.nl_journal.specs.Outcomes.{bytes_of, May}
 use Rattle.nl_journal.specs.Laws.{OpenedInOrder}
 use Rattle.nl_journal.specs.Opening.{HasImages, Opened, are_there, commit_number, counted_in, deciding, header_number}
-use Rattle.nl_journal.specs.Restoring.{IsListing}
-use Rattle.nl_journal.specs.Standing.{Keeps}
+use Rattle.nl_journal.specs.Restoring.{IsVolumeHeader}
+use Rattle.nl_journal.specs.Standing.{JournalMatchesMap}
 use Rattle.nl_journal.specs.Transaction.{head, mark, header, place}
 use Rattle.nl_journal.specs.declared.answers.Phase.{Phase}
 use Rattle.nl_journal.specs.declared.answers.Phase.TheVariants.{Header, Image, Commit, Home}
@@ -76,16 +76,16 @@ spelled_at_all : (main : List ℕ) (h : HeaderRec) → header_of main ≡ Some h
 unfolding header_of
 spelled_at_all main h is = spelled_has (λ (x : HeaderRec). is_header x ≡ true) (header_fields main) h (is_header (header_fields main)) (bytes_eq (header_bytes (header_fields main)) main) (λ e. e) is
 
-listing_of : (shape : Shape) (main : List ℕ) (o : Option HeaderRec) (h : HeaderRec) → o ≡ header_of main → option_and_then (within_volume shape) o ≡ Some h → IsListing shape h
+listing_of : (shape : Shape) (main : List ℕ) (o : Option HeaderRec) (h : HeaderRec) → o ≡ header_of main → option_and_then (within_volume shape) o ≡ Some h → IsVolumeHeader shape h
 listing_of shape main None h at is = absurd (none-some h is)
 listing_of shape main (Some x) h at is = by (cases_Bool (list_all (λ a. nat_lt a shape.vaddrs) x.addresses))
   where
-    by : (list_all (λ a. nat_lt a shape.vaddrs) x.addresses ≡ true) ⊎ (list_all (λ a. nat_lt a shape.vaddrs) x.addresses ≡ false) → IsListing shape h
-    by (inl below) = subst (IsListing shape) (same_Some x h (sym (cond-true (list_all (λ a. nat_lt a shape.vaddrs) x.addresses) (Some x) None below) ∙ is))
+    by : (list_all (λ a. nat_lt a shape.vaddrs) x.addresses ≡ true) ⊎ (list_all (λ a. nat_lt a shape.vaddrs) x.addresses ≡ false) → IsVolumeHeader shape h
+    by (inl below) = subst (IsVolumeHeader shape) (same_Some x h (sym (cond-true (list_all (λ a. nat_lt a shape.vaddrs) x.addresses) (Some x) None below) ∙ is))
         (record { spelled = spelled_at_all main x (sym at); within = below })
     by (inr far) = absurd (none-some h (sym (cond-false (list_all (λ a. nat_lt a shape.vaddrs) x.addresses) (Some x) None far) ∙ is))
 
-pub header_if : (shape : Shape) (main : List ℕ) (spelled o : Option HeaderRec) → o ≡ option_and_then (within_volume shape) spelled → spelled ≡ header_of main → IfSome o (λ h. (h.number < 2 ^ 63) × IsListing shape h)
+pub header_if : (shape : Shape) (main : List ℕ) (spelled o : Option HeaderRec) → o ≡ option_and_then (within_volume shape) spelled → spelled ≡ header_of main → IfSome o (λ h. (h.number < 2 ^ 63) × IsVolumeHeader shape h)
 header_if shape main spelled None is same = tt
 header_if shape main spelled (Some h) is same =
     ((head_short shape (Some main) h (sym (is ∙ ap (option_and_then (within_volume shape)) same))).0, listing_of shape main spelled h same (sym is))
@@ -149,7 +149,7 @@ next_is shape f =
 
 -- a volume on which no transaction counts
 pub opened_idle : (shape : Shape) (map : ℕ → Option Value) (failed : ℕ → Value → Type 0) (number : ℕ) (frozen : Frozen) → 67 ≤ shape.vaddrs → NoneFailed shape.vaddrs failed → counting shape (bytes_of map) ≡ None
-    → number + 1 ≡ next_number shape (bytes_of map) → Keeps shape map failed (record { number = number; phase = Header }) frozen
+    → number + 1 ≡ next_number shape (bytes_of map) → JournalMatchesMap shape map failed (record { number = number; phase = Header }) frozen
 opened_idle shape map failed number frozen wide none nothing is = record {
   home = λ v b home at. may_is shape.vaddrs map failed none v b home.below at ∙ sym (committed_alone shape (bytes_of map) v nothing);
   older = λ b at rec spelled.
@@ -179,7 +179,7 @@ counting_is shape f h is = counted_by f (head shape (f 1)) (mark (f 66)) h (sym 
 
 -- a volume on which one counts: its pages are to be copied home
 pub opened_home : (shape : Shape) (map : ℕ → Option Value) (failed : ℕ → Value → Type 0) (number : ℕ) (frozen : Frozen) → 67 ≤ shape.vaddrs → NoneFailed shape.vaddrs failed → length frozen.addresses ≤ 64
-    → HasImages (bytes_of map) number frozen shape → Keeps shape map failed (record { number = number; phase = Home 0 }) frozen
+    → HasImages (bytes_of map) number frozen shape → JournalMatchesMap shape map failed (record { number = number; phase = Home 0 }) frozen
 opened_home shape map failed number frozen wide none few has =
     let spelled = counting_is shape (bytes_of map) (header number frozen) has.counts in
     record {
@@ -249,11 +249,11 @@ pub counted_none : (f : VirtualMap) (h : HeaderRec) → are_there f 0 (length h.
 counted_none f h is = cond-false (are_there f 0 (length h.addresses)) (Some h) None is
 
 opened_as : (phase : Phase) (number : ℕ) (shape : Shape) (map : ℕ → Option Value) (failed : ℕ → Value → Type 0) (frozen : Frozen) → 67 ≤ shape.vaddrs → NoneFailed shape.vaddrs failed
-    → Opened phase shape (bytes_of map) number frozen → Keeps shape map failed (record { number = number; phase = phase }) frozen
+    → Opened phase shape (bytes_of map) number frozen → JournalMatchesMap shape map failed (record { number = number; phase = phase }) frozen
 opened_as Header number shape map failed frozen wide none o = opened_idle shape map failed number frozen wide none o.0 o.1
 opened_as (Image i) number shape map failed frozen wide none o = absurd o
 opened_as Commit number shape map failed frozen wide none o = absurd o
-opened_as (Home i) number shape map failed frozen wide none o = subst (λ n. Keeps shape map failed (record { number = number; phase = Home n }) frozen) (sym o.0) (opened_home shape map failed number frozen wide none o.1 o.2)
+opened_as (Home i) number shape map failed frozen wide none o = subst (λ n. JournalMatchesMap shape map failed (record { number = number; phase = Home n }) frozen) (sym o.0) (opened_home shape map failed number frozen wide none o.1 o.2)
 
 -- the number of the next transaction, by the records that were read
 pub number_is : (shape : Shape) (f : VirtualMap) (n : ℕ) (h : Option HeaderRec) (k : Option CommitRec) → n ≡ max (header_number h) (commit_number k) → h ≡ head shape (f 1) → k ≡ mark (f 66) → n + 1 ≡ next_number shape f

@@ -6,7 +6,7 @@ use Rattle.nl_iface.specs.Names.{Names, SameTables}
 use Rattle.nl_iface.specs.Space.{SameBlocks, SameSegment, Space}
 use Rattle.nl_iface.specs.Stored.{Value}
 use Rattle.nl_iface.specs.declared.counts.Counts.{Ghosts}
-use Rattle.nl_journal.specs.Passes.{Passes, StampsRise}
+use Rattle.nl_journal.specs.Passes.{ChangesAddressesOnly, StampsRise}
 
 tables_then : (a b c : Names) → SameTables a b → SameTables b c → SameTables a c
 tables_then a b c k l = record {
@@ -53,7 +53,7 @@ module _ {D : Type 0} (g : Ghosts D) where
   }
 
   -- no call
-  pub passes_start : (done : Type 0) (most : ℕ) (s : D) → g.keeps_spare s → Passes g done most s s
+  pub passes_start : (done : Type 0) (most : ℕ) (s : D) → g.keeps_spare s → ChangesAddressesOnly g done most s s
   passes_start done most s spare = record {
     named = named_start s;
     spare = record { cleaned = λ d. spare; sound = λ off. spare };
@@ -81,7 +81,7 @@ module _ {D : Type 0} (g : Ghosts D) where
     }
 
     -- a call that was done, and then another one
-    pub passes_then : (done over : Type 0) (m n : ℕ) → done → g.clock b ≤ g.clock d → Passes g done m a b → Passes g over n b d → Passes g over (m + n) a d
+    pub passes_then : (done over : Type 0) (m n : ℕ) → done → g.clock b ≤ g.clock d → ChangesAddressesOnly g done m a b → ChangesAddressesOnly g over n b d → ChangesAddressesOnly g over (m + n) a d
     passes_then done over m n is_done clock k l = record {
       named = named_then k.named l.named;
       spare = record { cleaned = l.spare.cleaned; sound = λ off. l.spare.sound (not_rose_second (g.write_faults a) (g.write_faults b) (g.write_faults d) first_writes off) };
@@ -112,7 +112,7 @@ module _ {D : Type 0} (g : Ghosts D) where
     stays = λ exact off. (refl, refl);
   }
 
-  pub passes_most : (done : Type 0) (m n : ℕ) (a b : D) → m ≤ n → Passes g done m a b → Passes g done n a b
+  pub passes_most : (done : Type 0) (m n : ℕ) (a b : D) → m ≤ n → ChangesAddressesOnly g done m a b → ChangesAddressesOnly g done n a b
   passes_most done m n a b le k = record {
     named = k.named;
     spare = k.spare;
@@ -121,7 +121,7 @@ module _ {D : Type 0} (g : Ghosts D) where
   }
 
   -- by another answer
-  pub passes_by : (done over : Type 0) (n : ℕ) (a b : D) → (over → done) → (done → over) → Passes g done n a b → Passes g over n a b
+  pub passes_by : (done over : Type 0) (n : ℕ) (a b : D) → (over → done) → (done → over) → ChangesAddressesOnly g done n a b → ChangesAddressesOnly g over n a b
   passes_by done over n a b to from k = record {
     named = k.named;
     spare = record { cleaned = λ o. k.spare.cleaned (to o); sound = k.spare.sound };
@@ -129,5 +129,5 @@ module _ {D : Type 0} (g : Ghosts D) where
     failed = λ t v x f. ⊎_elim (λ old. inl old) (λ new. inr ((λ o. new.0 (to o)), new.1)) (k.failed t v x f);
   }
 
-  pub none_failed : (done : Type 0) (n : ℕ) (a b : D) → g.tells → done → Passes g done n a b → (v : ℕ) (x : Value) → g.failed b v x → g.failed a v x
+  pub none_failed : (done : Type 0) (n : ℕ) (a b : D) → g.tells → done → ChangesAddressesOnly g done n a b → (v : ℕ) (x : Value) → g.failed b v x → g.failed a v x
   none_failed done n a b t is_done k v x f = ⊎_elim (λ old. old) (λ new. absurd (new.0 is_done)) (k.failed t v x f)

@@ -11,7 +11,7 @@ use Rattle.nl_meta.specs.Committed.{VirtualMap, home_or_image, committed}
 use Rattle.nl_meta.specs.Pages.{Frozen}
 use Rattle.nl_journal.specs.Outcomes.{Tried, Written, Within, NoMore, IsHome, Agrees}
 use Rattle.nl_journal.specs.Transaction.{head, mark, Older, header, main_at, place, with_pages, IsFrozen, IsTransaction}
-use Rattle.nl_journal.specs.Standing.{AtRest, Staged, Undecided, Deciding, Counts}
+use Rattle.nl_journal.specs.Standing.{AtRest, Staged, Undecided, Deciding, TransactionCounts}
 use Rattle.nl_journal.proofs.Counted.{uncounted, counted, committed_alone, committed_over, page_there, page_beside}
 
 -- no address of the journal is a home
@@ -65,7 +65,7 @@ module _ {shape : Shape} {may : ℕ → Option (List ℕ) → Type 0} {base : Vi
       committed_alone shape f v (uncounted shape f (header number frozen) (s.begins (f 1) (within 1 (omega (arith, wide)))) older) ∙ s.home v (f v) home (within v home.below)
 
   -- from the commit page on they are those of the transaction
-  pub counts_commits : {frozen : Frozen} {copied : ℕ} → Counts shape may base number frozen copied → IsTransaction shape.vaddrs frozen → 67 ≤ shape.vaddrs → (f : VirtualMap) → Within shape.vaddrs may f
+  pub counts_commits : {frozen : Frozen} {copied : ℕ} → TransactionCounts shape may base number frozen copied → IsTransaction shape.vaddrs frozen → 67 ≤ shape.vaddrs → (f : VirtualMap) → Within shape.vaddrs may f
       → Agrees shape.vaddrs (committed shape f) base
   counts_commits {frozen} s t wide f within v home =
       let few = t.pages.few in
@@ -143,7 +143,7 @@ module _ {shape : Shape} {may : ℕ → Option (List ℕ) → Type 0} {base : Vi
   )
 
   pub mark_written : {frozen : Frozen} (main : List ℕ) → IsTransaction shape.vaddrs frozen → mark (Some main) ≡ Some (record { number = number }) → Staged shape may base number frozen (length frozen.addresses)
-      → Counts shape (Written may 66 main) (with_pages frozen base) number frozen 0
+      → TransactionCounts shape (Written may 66 main) (with_pages frozen base) number frozen 0
   mark_written {frozen} main t spells s =
       let few = t.pages.few in
       record {
@@ -158,7 +158,7 @@ module _ {shape : Shape} {may : ℕ → Option (List ℕ) → Type 0} {base : Vi
   -- ---- a page copied home
 
   pub home_tried : {frozen : Frozen} {j v : ℕ} (main : List ℕ) → IsTransaction shape.vaddrs frozen → j < length frozen.addresses → v ≡ get_or frozen.addresses j 0 → main ≡ main_at frozen.images j
-      → Counts shape may base number frozen j → Counts shape (Tried may v main) base number frozen j
+      → TransactionCounts shape may base number frozen j → TransactionCounts shape (Tried may v main) base number frozen j
   home_tried {frozen} {j} {v} main t below is bytes s =
       let own : IsHome shape.vaddrs v = subst (IsHome shape.vaddrs) (sym is) (t.home j below) in
       let few = t.pages.few in
@@ -175,7 +175,7 @@ module _ {shape : Shape} {may : ℕ → Option (List ℕ) → Type 0} {base : Vi
       unplaced u at none = none-some j (sym none ∙ place_own t.pages u j below (at ∙ is))
 
   pub home_written : {frozen : Frozen} {j v : ℕ} (main : List ℕ) → IsTransaction shape.vaddrs frozen → j < length frozen.addresses → v ≡ get_or frozen.addresses j 0 → main ≡ main_at frozen.images j
-      → Counts shape may base number frozen j → Counts shape (Written may v main) base number frozen (j + 1)
+      → TransactionCounts shape may base number frozen j → TransactionCounts shape (Written may v main) base number frozen (j + 1)
   home_written {frozen} {j} {v} main t below is bytes s =
       let own : IsHome shape.vaddrs v = subst (IsHome shape.vaddrs) (sym is) (t.home j below) in
       let few = t.pages.few in
@@ -200,7 +200,7 @@ module _ {shape : Shape} {may : ℕ → Option (List ℕ) → Type 0} {base : Vi
       ]
 
   -- all of it is home
-  pub counts_end : {frozen : Frozen} → IsTransaction shape.vaddrs frozen → 67 ≤ shape.vaddrs → Counts shape may base number frozen (length frozen.addresses) → AtRest shape may base (number + 1)
+  pub counts_end : {frozen : Frozen} → IsTransaction shape.vaddrs frozen → 67 ≤ shape.vaddrs → TransactionCounts shape may base number frozen (length frozen.addresses) → AtRest shape may base (number + 1)
   counts_end {frozen} t wide s = record {
     home = λ v b home at. by v b home at (place frozen v) refl;
     older = λ b at rec is. later rec (same_Some rec (record { number = number }) (sym is ∙ s.ends b at));
@@ -230,7 +230,7 @@ module _ {shape : Shape} {may : ℕ → Option (List ℕ) → Type 0} {base : Vi
     home = λ v b home at. s.home v b home (less v b at);
   }
 
-  pub counts_less : {new : ℕ → Option (List ℕ) → Type 0} {frozen : Frozen} {copied : ℕ} → NoMore may new → Counts shape may base number frozen copied → Counts shape new base number frozen copied
+  pub counts_less : {new : ℕ → Option (List ℕ) → Type 0} {frozen : Frozen} {copied : ℕ} → NoMore may new → TransactionCounts shape may base number frozen copied → TransactionCounts shape new base number frozen copied
   counts_less less s = record {
     begins = λ b at. s.begins b (less 1 b at);
     ends = λ b at. s.ends b (less 66 b at);
@@ -252,7 +252,7 @@ module _ {shape : Shape} {may : ℕ → Option (List ℕ) → Type 0} {base : Vi
   pub staged_named : {named : VirtualMap} {frozen : Frozen} {done : ℕ} → Agrees shape.vaddrs base named → Staged shape may base number frozen done → Staged shape may named number frozen done
   staged_named same s = record { begins = s.begins; images = s.images; home = λ v b home at. s.home v b home at ∙ same v home }
 
-  pub counts_named : {named : VirtualMap} {frozen : Frozen} {copied : ℕ} → Agrees shape.vaddrs base named → Counts shape may base number frozen copied → Counts shape may named number frozen copied
+  pub counts_named : {named : VirtualMap} {frozen : Frozen} {copied : ℕ} → Agrees shape.vaddrs base named → TransactionCounts shape may base number frozen copied → TransactionCounts shape may named number frozen copied
   counts_named same s = record {
     begins = s.begins;
     ends = s.ends;

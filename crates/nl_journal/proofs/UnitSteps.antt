@@ -12,7 +12,7 @@ use Rattle.nl_journal.specs.Committing.{ahead_on, aimed, committed_now, committe
 use Rattle.nl_journal.specs.Left.{LeavesEither, LeavesOne, LeavesRest, UnitWrites}
 use Rattle.nl_journal.specs.Outcomes.{Agrees, May, NoMore, Tried, Within, Written, bytes_of}
 use Rattle.nl_journal.specs.Progress.{HasNumber, IsPhase, Progress, next, next_number_in, next_phase, number_in}
-use Rattle.nl_journal.specs.Standing.{InOrder, Keeps, Stands}
+use Rattle.nl_journal.specs.Standing.{JournalInOrder, JournalMatchesMap, JournalInPhase}
 use Rattle.nl_journal.specs.Transaction.{IsTransaction}
 use Rattle.nl_journal.specs.Units.{IsDue, frozen_after}
 use Rattle.nl_journal.specs.declared.answers.Phase.{Phase}
@@ -48,19 +48,19 @@ after_pages Commit count frozen t some = t
 after_pages (Home i) count frozen t some = home_pages (nat_lt (i + 1) (length frozen.addresses)) count frozen t some
 
 home_stands : (b : Bool) (i number : ℕ) (shape : Shape) (may : ℕ → Option (List ℕ) → Type 0) (now base : VirtualMap) (frozen : Frozen)
-    → Stands (cond b (Home (i + 1)) Header) shape may now base number frozen → Stands (cond b (Home (i + 1)) Header) shape may now base number (cond b frozen none_frozen)
+    → JournalInPhase (cond b (Home (i + 1)) Header) shape may now base number frozen → JournalInPhase (cond b (Home (i + 1)) Header) shape may now base number (cond b frozen none_frozen)
 home_stands true i number shape may now base frozen s = s
 home_stands false i number shape may now base frozen s = s
 
 stands_after : (phase : Phase) (number : ℕ) (shape : Shape) (may : ℕ → Option (List ℕ) → Type 0) (now base : VirtualMap) (frozen : Frozen)
-    → Stands (next_phase phase (length frozen.addresses)) shape may now base number frozen → Stands (next_phase phase (length frozen.addresses)) shape may now base number (frozen_after phase frozen)
+    → JournalInPhase (next_phase phase (length frozen.addresses)) shape may now base number frozen → JournalInPhase (next_phase phase (length frozen.addresses)) shape may now base number (frozen_after phase frozen)
 stands_after Header number shape may now base frozen s = s
 stands_after (Image i) number shape may now base frozen s = s
 stands_after Commit number shape may now base frozen s = s
 stands_after (Home i) number shape may now base frozen s = home_stands (nat_lt (i + 1) (length frozen.addresses)) i number shape may now base frozen s
 
 module _ {D : Type 0} (g : Ghosts D) (old new : D) (p : Progress) (pages : Pages) (v : ℕ) (main : List ℕ) (volume : IsVolumeShape (g.shape old)) (some : 1 ≤ length pages.frozen.addresses)
-    (order : InOrder g old p pages.frozen) (due : IsDue p.phase p.number pages.frozen v main) (same : g.shape new ≡ g.shape old) where
+    (order : JournalInOrder g old p pages.frozen) (due : IsDue p.phase p.number pages.frozen v main) (same : g.shape new ≡ g.shape old) where
   wide : 67 ≤ (g.shape old).vaddrs
   wide = addresses_of (g.shape old) volume
 
@@ -72,42 +72,42 @@ module _ {D : Type 0} (g : Ghosts D) (old new : D) (p : Progress) (pages : Pages
   next_due = phase_with p.phase (length pages.frozen.addresses) some order.phase
 
   done_at : g.tells → HasNumber p (length pages.frozen.addresses) → NoMore (Written (May (g.map old) (g.failed old)) v main) (May (g.map new) (g.failed new))
-      → Keeps (g.shape old) (g.map new) (g.failed new) (next p (length pages.frozen.addresses)) pages.frozen
+      → JournalMatchesMap (g.shape old) (g.map new) (g.failed new) (next p (length pages.frozen.addresses)) pages.frozen
       × Agrees (g.shape old).vaddrs (committed_now (g.shape old) (g.map new)) (aimed p.phase pages.frozen (committed_now (g.shape old) (g.map old)))
   done_at t numbers wrote = after p.phase (g.shape old) (g.map old) (g.map new) (g.failed old) (g.failed new) p.number pages.frozen v main (order.pages some) wide order.phase numbers due (order.keeps t numbers)
       next_due wrote
 
   undone_at : g.tells → HasNumber p (length pages.frozen.addresses) → NoMore (Tried (May (g.map old) (g.failed old)) v main) (May (g.map new) (g.failed new))
       → ((u : ℕ) → bytes_of (g.map new) u ≡ bytes_of (g.map old) u)
-      → Keeps (g.shape old) (g.map new) (g.failed new) p pages.frozen × Agrees (g.shape old).vaddrs (committed_now (g.shape old) (g.map new)) (committed_now (g.shape old) (g.map old))
+      → JournalMatchesMap (g.shape old) (g.map new) (g.failed new) p pages.frozen × Agrees (g.shape old).vaddrs (committed_now (g.shape old) (g.map new)) (committed_now (g.shape old) (g.map old))
   undone_at t numbers tried unchanged = before p.phase (g.shape old) (g.map old) (g.map new) (g.failed old) (g.failed new) p.number pages.frozen v main (order.pages some) wide order.phase numbers due (order.keeps t numbers)
       tried unchanged
 
   after_order : (g.tells → NoMore (Written (May (g.map old) (g.failed old)) v main) (May (g.map new) (g.failed new)))
-      → IsPhase (next_phase p.phase (length pages.frozen.addresses)) (length (frozen_after p.phase pages.frozen).addresses) → InOrder g new (next p (length pages.frozen.addresses)) (frozen_after p.phase pages.frozen)
+      → IsPhase (next_phase p.phase (length pages.frozen.addresses)) (length (frozen_after p.phase pages.frozen).addresses) → JournalInOrder g new (next p (length pages.frozen.addresses)) (frozen_after p.phase pages.frozen)
   after_order wrote at = record {
     phase = at;
     pages = λ more. subst (λ (h : Shape). IsTransaction h.vaddrs (frozen_after p.phase pages.frozen)) (sym same) (after_pages p.phase (g.shape old).vaddrs pages.frozen (order.pages some) more);
     keeps = λ t numbers.
         let below : HasNumber p (length pages.frozen.addresses) = subst (λ n. n < 9223372036854775808) (begun_next p.phase p.number pages.frozen some) numbers in
-        subst (λ (h : Shape). Keeps h (g.map new) (g.failed new) (next p (length pages.frozen.addresses)) (frozen_after p.phase pages.frozen)) (sym same)
+        subst (λ (h : Shape). JournalMatchesMap h (g.map new) (g.failed new) (next p (length pages.frozen.addresses)) (frozen_after p.phase pages.frozen)) (sym same)
         (stands_after p.phase (number_in (next_phase p.phase (length pages.frozen.addresses)) (next_number_in p.phase p.number)) (g.shape old) (May (g.map new) (g.failed new)) (bytes_of (g.map new))
         (committed_now (g.shape old) (g.map new)) pages.frozen (done_at t below (wrote t)).0);
   }
 
   pub done_order : (q : Progress) (new_pages : Pages) → (g.tells → NoMore (Written (May (g.map old) (g.failed old)) v main) (May (g.map new) (g.failed new)))
-      → IsPhase q.phase (length new_pages.frozen.addresses) → q ≡ next p (length pages.frozen.addresses) → new_pages ≡ record pages { frozen = frozen_after p.phase pages.frozen } → InOrder g new q new_pages.frozen
+      → IsPhase q.phase (length new_pages.frozen.addresses) → q ≡ next p (length pages.frozen.addresses) → new_pages ≡ record pages { frozen = frozen_after p.phase pages.frozen } → JournalInOrder g new q new_pages.frozen
   done_order q new_pages wrote at is_next is_after =
       let here : IsPhase (next_phase p.phase (length pages.frozen.addresses)) (length (frozen_after p.phase pages.frozen).addresses) =
       subst (λ (n : Pages). IsPhase (next_phase p.phase (length pages.frozen.addresses)) (length n.frozen.addresses)) is_after (subst (λ (r : Progress). IsPhase r.phase (length new_pages.frozen.addresses)) is_next at) in
-      subst (λ (r : Progress). InOrder g new r new_pages.frozen) (sym is_next) (subst (λ (n : Pages). InOrder g new (next p (length pages.frozen.addresses)) n.frozen) (sym is_after) (after_order wrote here))
+      subst (λ (r : Progress). JournalInOrder g new r new_pages.frozen) (sym is_next) (subst (λ (n : Pages). JournalInOrder g new (next p (length pages.frozen.addresses)) n.frozen) (sym is_after) (after_order wrote here))
 
   pub undone_order : (g.tells → NoMore (Tried (May (g.map old) (g.failed old)) v main) (May (g.map new) (g.failed new))) → (g.tells → (u : ℕ) → bytes_of (g.map new) u ≡ bytes_of (g.map old) u)
-      → InOrder g new p pages.frozen
+      → JournalInOrder g new p pages.frozen
   undone_order tried unchanged = record {
     phase = order.phase;
     pages = λ more. subst (λ (h : Shape). IsTransaction h.vaddrs pages.frozen) (sym same) (order.pages more);
-    keeps = λ t numbers. subst (λ (h : Shape). Keeps h (g.map new) (g.failed new) p pages.frozen) (sym same) (undone_at t numbers (tried t) (unchanged t)).0;
+    keeps = λ t numbers. subst (λ (h : Shape). JournalMatchesMap h (g.map new) (g.failed new) p pages.frozen) (sym same) (undone_at t numbers (tried t) (unchanged t)).0;
   }
 
   -- what a stop leaves within the write, whether it is done or not

@@ -2,7 +2,7 @@
 use Rattle.std.specs.Prelude.{◌≡◌, ◌⊎◌, ℕ, ◌+◌, true, length}
 use Rattle.nl_field.specs.declared.shape.Shape.{Shape}
 use Rattle.nl_iface.specs.Calls.{LeavesAt, stored}
-use Rattle.nl_iface.specs.Stored.{NoneBeyond, NoneFailed, SameNamed, Stored, Value}
+use Rattle.nl_iface.specs.Stored.{NothingStoredBeyond, NoneFailed, SameNamed, Stored, Value}
 use Rattle.nl_iface.specs.declared.counts.Counts.{Ghosts}
 use Rattle.nl_meta.specs.Committed.{VirtualMap, committed}
 use Rattle.nl_meta.specs.Pages.{Pages, dirty_pages}
@@ -12,27 +12,27 @@ use Rattle.nl_journal.specs.Progress.{Progress, begun}
 use Rattle.nl_journal.specs.Transaction.{with_pages}
 
 -- what is stored has these committed pages
-abbrev pub Commits : Shape → VirtualMap → Stored → Type 0
-Commits shape base c = Agrees shape.vaddrs (committed shape (bytes_of c.virtual)) base
+abbrev pub StoresCommitted : Shape → VirtualMap → Stored → Type 0
+StoresCommitted shape base c = Agrees shape.vaddrs (committed shape (bytes_of c.virtual)) base
 
 -- Nothing but values of addresses changed: the pages under names are the same, and a firm segment stays firm where no write failed before.
 pub record LeavesRest (count : ℕ) (failed : ℕ → Value → Type 0) (old c : Stored) : Type 0 where
-  pub beyond : NoneBeyond count c
+  pub beyond : NothingStoredBeyond count c
   pub firm : old.firm ≡ true → NoneFailed count failed → c.firm ≡ true
   pub named : SameNamed old c
 
 -- The committed pages are these, and the rest is as it was on the device.
 abbrev pub LeavesOne : {D : Type 0} → Ghosts D → D → VirtualMap → Stored → Type 0
-LeavesOne g s a c = Commits (g.shape s) a c × LeavesRest (g.shape s).vaddrs (g.failed s) (stored g s) c
+LeavesOne g s a c = StoresCommitted (g.shape s) a c × LeavesRest (g.shape s).vaddrs (g.failed s) (stored g s) c
 
 -- The committed pages are these or those, and the rest is as it was on the device.
 abbrev pub LeavesEither : {D : Type 0} → Ghosts D → D → (a b : VirtualMap) → Stored → Type 0
-LeavesEither g s a b c = (Commits (g.shape s) a c ⊎ Commits (g.shape s) b c) × LeavesRest (g.shape s).vaddrs (g.failed s) (stored g s) c
+LeavesEither g s a b c = (StoresCommitted (g.shape s) a c ⊎ StoresCommitted (g.shape s) b c) × LeavesRest (g.shape s).vaddrs (g.failed s) (stored g s) c
 
 -- The committed pages are one of three maps, and the rest is as it was on the device.
 abbrev pub LeavesOneOf : {D : Type 0} → Ghosts D → D → (a b d : VirtualMap) → Stored → Type 0
 LeavesOneOf g s a b d c =
-    (Commits (g.shape s) a c ⊎ (Commits (g.shape s) b c ⊎ Commits (g.shape s) d c))
+    (StoresCommitted (g.shape s) a c ⊎ (StoresCommitted (g.shape s) b c ⊎ StoresCommitted (g.shape s) d c))
     × LeavesRest (g.shape s).vaddrs (g.failed s) (stored g s) c
 
 -- A unit: what is committed after it and once all is finished, and what a stop within it leaves.

@@ -15,10 +15,10 @@ use Rattle.nl_journal.specs.declared.reading.Seen.{Seen}
 use Rattle.nl_journal.specs.declared.reading.Seen.TheVariants as seen
 
 -- Agreed exactly where a transaction counts, with its number
-abbrev pub Finds : Shape → VirtualMap → ReadBack → Type 0
-Finds shape f (back.Agreed n) = (h : HeaderRec) × (counting shape f ≡ Some h) × (h.number ≡ n)
-Finds shape f back.Nothing = counting shape f ≡ None
-Finds shape f back.Fault = ⊤
+abbrev pub FindsTransaction : Shape → VirtualMap → ReadBack → Type 0
+FindsTransaction shape f (back.Agreed n) = (h : HeaderRec) × (counting shape f ≡ Some h) × (h.number ≡ n)
+FindsTransaction shape f back.Nothing = counting shape f ≡ None
+FindsTransaction shape f back.Fault = ⊤
 
 -- where a transaction counts, its pages are to be copied home
 abbrev pub phase_found : ReadBack → Phase
@@ -65,15 +65,15 @@ IfThere seen.Absent P = ⊤
 IfThere seen.Fault P = ⊤
 
 -- whether a page is there, by a read of it
-abbrev pub TellsOf : Option (List ℕ) → Seen → Type 0
-TellsOf b seen.There = is_some b ≡ true
-TellsOf b seen.Absent = b ≡ None
-TellsOf b seen.Fault = ⊤
+abbrev pub SeesPage : Option (List ℕ) → Seen → Type 0
+SeesPage b seen.There = is_some b ≡ true
+SeesPage b seen.Absent = b ≡ None
+SeesPage b seen.Fault = ⊤
 
-abbrev pub IsFault : Seen → Type 0
-IsFault seen.There = ⊥
-IsFault seen.Absent = ⊥
-IsFault seen.Fault = ⊤
+abbrev pub IsSeenFault : Seen → Type 0
+IsSeenFault seen.There = ⊥
+IsSeenFault seen.Absent = ⊥
+IsSeenFault seen.Fault = ⊤
 
 -- whether so many images from a place on are there
 abbrev pub are_there : VirtualMap → ℕ → ℕ → Bool

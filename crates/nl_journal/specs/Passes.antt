@@ -15,7 +15,7 @@ pub record StampsRise {D : Type 0} (g : Ghosts D) (most : ℕ) (old new : D) : T
 
 -- Only addresses change: the physical segment has what it had, the spare block stays but where a write failed in it, so many stamps at
 -- most are taken, and more writes that failed may be shown only where one failed in it.
-pub record Passes {D : Type 0} (g : Ghosts D) (done : Type 0) (most : ℕ) (old new : D) : Type 0 where
+pub record ChangesAddressesOnly {D : Type 0} (g : Ghosts D) (done : Type 0) (most : ℕ) (old new : D) : Type 0 where
   pub named : KeepsNamed g old new
   pub spare : KeepsSpare g done old new
   pub stamps : StampsRise g most old new

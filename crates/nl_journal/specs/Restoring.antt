@@ -18,7 +18,7 @@ use Rattle.nl_journal.specs.declared.answers.ReadBack.{ReadBack}
 use Rattle.nl_journal.specs.declared.answers.ReadBack.TheVariants as back
 
 -- a header that is spelled, each address of which is one of the volume
-pub record IsListing (shape : Shape) (header : HeaderRec) : Type 0 where
+pub record IsVolumeHeader (shape : Shape) (header : HeaderRec) : Type 0 where
   pub spelled : is_header header ≡ true
   pub within : list_all (λ a. nat_lt a shape.vaddrs) header.addresses ≡ true
 

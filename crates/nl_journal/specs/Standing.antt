@@ -35,7 +35,7 @@ pub record Deciding (may : ℕ → Option (List ℕ) → Type 0) (now : Option (
   pub either : (b : Option (List ℕ)) → may 66 b → Older number b ⊎ (mark b ≡ Some (record { number = number }))
 
 -- The transaction counts, and so many of its pages are home.
-pub record Counts (shape : Shape) (may : ℕ → Option (List ℕ) → Type 0) (base : VirtualMap) (number : ℕ) (frozen : Frozen)
+pub record TransactionCounts (shape : Shape) (may : ℕ → Option (List ℕ) → Type 0) (base : VirtualMap) (number : ℕ) (frozen : Frozen)
     (copied : ℕ) : Type 0 where
   pub begins : (b : Option (List ℕ)) → may 1 b → head shape b ≡ Some (header number frozen)
   pub ends : (b : Option (List ℕ)) → may 66 b → mark b ≡ Some (record { number = number })
@@ -46,21 +46,21 @@ pub record Counts (shape : Shape) (may : ℕ → Option (List ℕ) → Type 0) (
   pub others : (v : ℕ) (b : Option (List ℕ)) → IsHome shape.vaddrs v → place frozen v ≡ None → may v b → b ≡ base v
 
 -- By which page is due: what may be shown, and what is shown where no failed write is.
-abbrev pub Stands : Phase → Shape → (ℕ → Option (List ℕ) → Type 0) → VirtualMap → VirtualMap → ℕ → Frozen → Type 0
-Stands Header shape may now base number frozen = AtRest shape may base number
-Stands (Image i) shape may now base number frozen = Staged shape may base number frozen i × Undecided may number
-Stands Commit shape may now base number frozen =
+abbrev pub JournalInPhase : Phase → Shape → (ℕ → Option (List ℕ) → Type 0) → VirtualMap → VirtualMap → ℕ → Frozen → Type 0
+JournalInPhase Header shape may now base number frozen = AtRest shape may base number
+JournalInPhase (Image i) shape may now base number frozen = Staged shape may base number frozen i × Undecided may number
+JournalInPhase Commit shape may now base number frozen =
     Staged shape may base number frozen (length frozen.addresses) × Deciding may (now 66) number
-Stands (Home i) shape may now base number frozen = Counts shape may base number frozen i
+JournalInPhase (Home i) shape may now base number frozen = TransactionCounts shape may base number frozen i
 
 -- The pages of the journal stand on a device of this map, but for writes that failed. The committed pages are those of the map.
-abbrev pub Keeps : Shape → (ℕ → Option Value) → (ℕ → Value → Type 0) → Progress → Frozen → Type 0
-Keeps shape map failed p frozen =
-    Stands p.phase shape (May map failed) (bytes_of map) (committed shape (bytes_of map)) (transaction p) frozen
+abbrev pub JournalMatchesMap : Shape → (ℕ → Option Value) → (ℕ → Value → Type 0) → Progress → Frozen → Type 0
+JournalMatchesMap shape map failed p frozen =
+    JournalInPhase p.phase shape (May map failed) (bytes_of map) (committed shape (bytes_of map)) (transaction p) frozen
 
 -- The journal of a device, between calls: the frozen pages are a transaction, and its pages stand as far as it is. Where a number
 -- has no spelling, nothing is said of what is stored.
-pub record InOrder {D : Type 0} (g : Ghosts D) (s : D) (p : Progress) (frozen : Frozen) : Type 0 where
+pub record JournalInOrder {D : Type 0} (g : Ghosts D) (s : D) (p : Progress) (frozen : Frozen) : Type 0 where
   pub phase : IsPhase p.phase (length frozen.addresses)
   pub pages : 1 ≤ length frozen.addresses → IsTransaction (g.shape s).vaddrs frozen
-  pub keeps : g.tells → HasNumber p (length frozen.addresses) → Keeps (g.shape s) (g.map s) (g.failed s) p frozen
+  pub keeps : g.tells → HasNumber p (length frozen.addresses) → JournalMatchesMap (g.shape s) (g.map s) (g.failed s) p frozen

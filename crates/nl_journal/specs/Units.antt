@@ -19,12 +19,12 @@ IsDue Commit number frozen v main = (v ≡ 66) × (commit_of main ≡ Some (reco
 IsDue (Home i) number frozen v main = (v ≡ slice_index frozen.addresses i) × (main ≡ main_at frozen.images i)
 
 -- the unit was done
-abbrev pub IsDone : Answer → Type 0
-IsDone unit.Programmed = ⊤
-IsDone (unit.Decided number) = ⊤
-IsDone unit.AllHome = ⊤
-IsDone (unit.Lost wanted found) = ⊥
-IsDone unit.Fault = ⊥
+abbrev pub UnitIsDone : Answer → Type 0
+UnitIsDone unit.Programmed = ⊤
+UnitIsDone (unit.Decided number) = ⊤
+UnitIsDone unit.AllHome = ⊤
+UnitIsDone (unit.Lost wanted found) = ⊥
+UnitIsDone unit.Fault = ⊥
 
 -- what a unit that was done answers
 abbrev pub answer_in : Phase → ℕ → ℕ → Answer
@@ -45,10 +45,10 @@ frozen_after (Home i) frozen = if nat_lt (i + 1) (length frozen.addresses) then 
 
 -- The journal goes on where the unit was done. Of the metadata only the frozen pages change.
 pub record Advances (result : Answer) (old new : Progress) (old_pages new_pages : Pages) : Type 0 where
-  pub done : IsDone result
+  pub done : UnitIsDone result
       → (result ≡ answer old (length old_pages.frozen.addresses)) × (new ≡ next old (length old_pages.frozen.addresses))
       × (new_pages ≡ record old_pages { frozen = frozen_after old.phase old_pages.frozen })
-  pub waits : (IsDone result → ⊥) → (new ≡ old) × (new_pages ≡ old_pages)
+  pub waits : (UnitIsDone result → ⊥) → (new ≡ old) × (new_pages ≡ old_pages)
 
 -- the stamp that is wanted and the one that was found, where a unit was lost
 abbrev pub IfLostUnit : Answer → (ℕ → ℕ → Type 0) → Type 0
@@ -58,24 +58,24 @@ IfLostUnit unit.AllHome P = ⊤
 IfLostUnit (unit.Lost w f) P = P w f
 IfLostUnit unit.Fault P = ⊤
 
-abbrev pub IsCommitted : Commits → Type 0
-IsCommitted (commits.Done n) = ⊤
-IsCommitted (commits.Lost w f) = ⊥
-IsCommitted commits.Fault = ⊥
+abbrev pub CommitIsDone : Commits → Type 0
+CommitIsDone (commits.Done n) = ⊤
+CommitIsDone (commits.Lost w f) = ⊥
+CommitIsDone commits.Fault = ⊥
 
 abbrev pub IfCommitted : Commits → (ℕ → Type 0) → Type 0
 IfCommitted (commits.Done n) P = P n
 IfCommitted (commits.Lost w f) P = ⊤
 IfCommitted commits.Fault P = ⊤
 
-abbrev pub IfLost : Commits → (ℕ → ℕ → Type 0) → Type 0
-IfLost (commits.Done n) P = ⊤
-IfLost (commits.Lost w f) P = P w f
-IfLost commits.Fault P = ⊤
+abbrev pub IfCommitLost : Commits → (ℕ → ℕ → Type 0) → Type 0
+IfCommitLost (commits.Done n) P = ⊤
+IfCommitLost (commits.Lost w f) P = P w f
+IfCommitLost commits.Fault P = ⊤
 
 -- Nothing is frozen and nothing dirty any more, and the number is that of the transaction of the dirty pages: two more than the last where
 -- one was frozen that was not decided, and else one more.
-pub record Ends (number : ℕ) (old new : Progress) (old_pages new_pages : Pages) : Type 0 where
+pub record EndsCommit (number : ℕ) (old new : Progress) (old_pages new_pages : Pages) : Type 0 where
   pub next : number ≡ next_after (begun old (length old_pages.frozen.addresses))
   pub kept : new.number ≡ raised (begun old (length old_pages.frozen.addresses))
   pub idle : new.phase ≡ Header
@@ -89,8 +89,8 @@ Waits old new = (new ≡ old) ⊎ (new ≡ record old { dirty = []; frozen = dir
 -- Where nothing was frozen, the dirty pages are: they began the next transaction, and all of it is done, or it waits.
 pub record CommitsDirty (result : Commits) (old new : Progress) (old_pages new_pages : Pages) : Type 0 where
   pub begun_next : begun new (length new_pages.frozen.addresses) ≡ raised old.number
-  pub done : IfCommitted result (λ n. Ends n old new old_pages new_pages)
-  pub waits : (IsCommitted result → ⊥) → new_pages ≡ record old_pages { dirty = []; frozen = dirty_pages old_pages }
+  pub done : IfCommitted result (λ n. EndsCommit n old new old_pages new_pages)
+  pub waits : (CommitIsDone result → ⊥) → new_pages ≡ record old_pages { dirty = []; frozen = dirty_pages old_pages }
   pub running : new_pages.running ≡ old_pages.running
 
 -- Units were done until at most so many are left. Of the metadata only the frozen pages change: all of them are home, or they stay. The

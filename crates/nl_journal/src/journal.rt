@@ -6,14 +6,14 @@ ghost use Rattle.nl_iface.specs.Calls.{CallCounted, DoneOrFailed, LeavesAt, Only
 ghost use Rattle.nl_journal.specs.Committing.{ahead_on, committed_on, finished_on};
 ghost use Rattle.nl_journal.specs.Homes.{BringsHome, WritesHome};
 ghost use Rattle.nl_journal.specs.Left.{CommitWrites, DirtyWrites, FinishWrites, UnitWrites};
-ghost use Rattle.nl_journal.specs.Opening.{Finds, commit_number, counted_in, deciding, header_number, phase_found};
+ghost use Rattle.nl_journal.specs.Opening.{FindsTransaction, commit_number, counted_in, deciding, header_number, phase_found};
 ghost use Rattle.nl_journal.specs.Outcomes.{Agrees, bytes_of};
-ghost use Rattle.nl_journal.specs.Passes.{Passes};
+ghost use Rattle.nl_journal.specs.Passes.{ChangesAddressesOnly};
 ghost use Rattle.nl_journal.specs.Progress.{HasNumber, IsPhase, Progress, begun, next, next_after as after, raised as raised_from, units_left};
-ghost use Rattle.nl_journal.specs.Restoring.{BringsBack, IsListing, Restores};
-ghost use Rattle.nl_journal.specs.Standing.{InOrder};
+ghost use Rattle.nl_journal.specs.Restoring.{BringsBack, IsVolumeHeader, Restores};
+ghost use Rattle.nl_journal.specs.Standing.{JournalInOrder};
 ghost use Rattle.nl_journal.specs.Transaction.{IsTransaction, head};
-ghost use Rattle.nl_journal.specs.Units.{Advances, CommitsDirty, Ends, Finishes, IfCommitted, IfLost, IfLostUnit, IsCommitted, IsDone, Waits, answer};
+ghost use Rattle.nl_journal.specs.Units.{Advances, CommitsDirty, EndsCommit, Finishes, IfCommitted, IfCommitLost, IfLostUnit, CommitIsDone, UnitIsDone, Waits, answer};
 ghost use Rattle.nl_meta.specs.Committed.{counting, next_number as number_of_next};
 ghost use Rattle.nl_meta.specs.Pages.{dirty_pages, no_pages};
 
@@ -108,18 +108,18 @@ impl Journal {
         requires spare { D.keeps_spare device.old }
         requires stamp { D.next_stamp device.old < 2 ^ 63 }
         requires some { 1 ≤ length meta.old.frozen.addresses }
-        requires order { InOrder D.Counts device.old self.old meta.old.frozen }
+        requires order { JournalInOrder D.Counts device.old self.old meta.old.frozen }
         ensures formed { D.formed device.new }
-        ensures order { InOrder D.Counts device.new self.new meta.new.frozen }
+        ensures order { JournalInOrder D.Counts device.new self.new meta.new.frozen }
         ensures advances { Advances result self.old self.new meta.old meta.new }
         ensures writes { D.tells → HasNumber self.old (length meta.old.frozen.addresses)
-            → UnitWrites D.Counts (IsDone result) self.old self.new meta.old meta.new device.old device.new }
-        ensures home { D.tells → WritesHome self.old.phase meta.old.frozen (IsDone result) (D.shape device.old).vaddrs
+            → UnitWrites D.Counts (UnitIsDone result) self.old self.new meta.old meta.new device.old device.new }
+        ensures home { D.tells → WritesHome self.old.phase meta.old.frozen (UnitIsDone result) (D.shape device.old).vaddrs
             (bytes_of (D.map device.old)) (bytes_of (D.map device.new)) }
-        ensures passes { Passes D.Counts (IsDone result) 1 device.old device.new }
+        ensures passes { ChangesAddressesOnly D.Counts (UnitIsDone result) 1 device.old device.new }
         ensures lost { IfLostUnit result (IsLostStamp D.tells (D.stamps device.new)) }
-        ensures next_stamp { TakesStamp D.Counts (DoneOrFailed D.Counts (IsDone result) device.old device.new) device.old device.new }
-        ensures clock { Ticks D.Counts (IsDone result) device.old device.new }
+        ensures next_stamp { TakesStamp D.Counts (DoneOrFailed D.Counts (UnitIsDone result) device.old device.new) device.old device.new }
+        ensures clock { Ticks D.Counts (UnitIsDone result) device.old device.new }
         ensures faults { CallCounted D.Counts (result ≡ Unit.Fault) device.old device.new }
     {
         let vaddr = due(&mut self.page, self.phase, self.number, meta);
@@ -139,17 +139,17 @@ impl Journal {
         requires spare { D.keeps_spare device.old }
         requires stamp { D.next_stamp device.old < 2 ^ 63 - 1024 }
         requires dirty { IsTransaction (D.shape device.old).vaddrs (dirty_pages meta.old) }
-        requires order { InOrder D.Counts device.old self.old meta.old.frozen }
+        requires order { JournalInOrder D.Counts device.old self.old meta.old.frozen }
         ensures formed { D.formed device.new }
-        ensures order { InOrder D.Counts device.new self.new meta.new.frozen }
+        ensures order { JournalInOrder D.Counts device.new self.new meta.new.frozen }
         ensures running { meta.new.running ≡ meta.old.running }
-        ensures done { IfCommitted result (λ n. Ends n self.old self.new meta.old meta.new) }
-        ensures waits { (IsCommitted result → ⊥) → Waits meta.old meta.new }
+        ensures done { IfCommitted result (λ n. EndsCommit n self.old self.new meta.old meta.new) }
+        ensures waits { (CommitIsDone result → ⊥) → Waits meta.old meta.new }
         ensures writes { D.tells → HasNumber self.new (length meta.new.frozen.addresses)
-            → CommitWrites D.Counts (IsCommitted result) self.old self.new meta.old meta.new device.old device.new }
-        ensures passes { Passes D.Counts (IsCommitted result) 1024 device.old device.new }
-        ensures lost { IfLost result (IsLostStamp D.tells (D.stamps device.new)) }
-        ensures clock { Ticks D.Counts (IsCommitted result) device.old device.new }
+            → CommitWrites D.Counts (CommitIsDone result) self.old self.new meta.old meta.new device.old device.new }
+        ensures passes { ChangesAddressesOnly D.Counts (CommitIsDone result) 1024 device.old device.new }
+        ensures lost { IfCommitLost result (IsLostStamp D.tells (D.stamps device.new)) }
+        ensures clock { Ticks D.Counts (CommitIsDone result) device.old device.new }
         ensures faults { CallCounted D.Counts (result ≡ Committing.Fault) device.old device.new }
     {
         match self.finish(device, meta, 0) {
@@ -165,7 +165,7 @@ impl Journal {
         requires formed { D.formed device.old }
         requires shape { shape.now ≡ D.shape device.old }
         ensures formed { D.formed device.new }
-        ensures found { D.tells → Finds (D.shape device.old) (bytes_of (D.map device.old)) result }
+        ensures found { D.tells → FindsTransaction (D.shape device.old) (bytes_of (D.map device.old)) result }
         ensures number { D.tells → (result ≡ ReadBack.Fault → ⊥)
             → self.new.number + 1 ≡ number_of_next (D.shape device.old) (bytes_of (D.map device.old)) }
         ensures phase { self.new.phase ≡ phase_found result }
@@ -200,7 +200,7 @@ impl Journal {
         requires shape { shape.now ≡ D.shape device.old }
         requires none { meta.old ≡ no_pages shape.now.vaddrs }
         ensures formed { D.formed device.new }
-        ensures found { D.tells → Finds (D.shape device.old) (bytes_of (D.map device.old)) result }
+        ensures found { D.tells → FindsTransaction (D.shape device.old) (bytes_of (D.map device.old)) result }
         ensures back { (result ≡ ReadBack.Fault → ⊥) → BringsBack D.Counts device.new self.new meta.new }
         ensures phase { self.new.phase ≡ phase_found result }
         ensures kept { OnlyReads D.Counts device.old device.new }
@@ -229,13 +229,13 @@ impl Journal {
     ) -> ReadBack
         requires formed { D.formed device.old }
         requires none { meta.old ≡ no_pages (D.shape device.old).vaddrs }
-        requires listing { IsListing (D.shape device.old) header }
+        requires listing { IsVolumeHeader (D.shape device.old) header }
         requires header { D.tells → head (D.shape device.old) (bytes_of (D.map device.old) 1) ≡ Some header }
         requires decides { D.tells
             → counting (D.shape device.old) (bytes_of (D.map device.old)) ≡ counted_in (bytes_of (D.map device.old)) (Some header) }
         requires phase { self.old.phase ≡ Phase.Header }
         ensures formed { D.formed device.new }
-        ensures found { D.tells → Finds (D.shape device.old) (bytes_of (D.map device.old)) result }
+        ensures found { D.tells → FindsTransaction (D.shape device.old) (bytes_of (D.map device.old)) result }
         ensures count { length meta.new.running ≡ length meta.old.running }
         ensures restored { Restores D.tells (D.shape device.old) (bytes_of (D.map device.old)) result meta.new }
         ensures number { self.new.number ≡ self.old.number }
@@ -266,7 +266,7 @@ impl Journal {
         requires formed { D.formed device.old }
         requires shape { shape.now ≡ D.shape device.old }
         ensures formed { D.formed device.new }
-        ensures listing { IfSome result (λ o. IfSome o (IsListing shape.now)) }
+        ensures listing { IfSome result (λ o. IfSome o (IsVolumeHeader shape.now)) }
         ensures header { D.tells → IfSome result (λ o. IfSome o (λ h. head (D.shape device.old) (bytes_of (D.map device.old) 1) ≡ Some h)) }
         ensures decides { D.tells → IfSome result
             (λ o. counting (D.shape device.old) (bytes_of (D.map device.old)) ≡ counted_in (bytes_of (D.map device.old)) o) }
@@ -331,16 +331,16 @@ impl Journal {
         requires formed { D.formed device.old }
         requires spare { D.keeps_spare device.old }
         requires stamp { D.next_stamp device.old + units_left self.old.phase (length meta.old.frozen.addresses) ≤ 2 ^ 63 }
-        requires order { InOrder D.Counts device.old self.old meta.old.frozen }
+        requires order { JournalInOrder D.Counts device.old self.old meta.old.frozen }
         requires until { until ≤ length meta.old.frozen.addresses }
         ensures formed { D.formed device.new }
-        ensures order { InOrder D.Counts device.new self.new meta.new.frozen }
+        ensures order { JournalInOrder D.Counts device.new self.new meta.new.frozen }
         ensures finishes { Finishes until (result ≡ VirtualWrite.Done) self.old self.new meta.old meta.new }
         ensures writes { D.tells → HasNumber self.old (length meta.old.frozen.addresses)
             → FinishWrites D.Counts (result ≡ VirtualWrite.Done) self.old self.new meta.old meta.new device.old device.new }
         ensures home { D.tells → BringsHome (D.shape device.old).vaddrs self.old self.new meta.old.frozen meta.new.frozen
             (bytes_of (D.map device.old)) (bytes_of (D.map device.new)) }
-        ensures passes { Passes D.Counts (result ≡ VirtualWrite.Done)
+        ensures passes { ChangesAddressesOnly D.Counts (result ≡ VirtualWrite.Done)
             (units_left self.old.phase (length meta.old.frozen.addresses)) device.old device.new }
         ensures lost { LosesStamp D.tells (D.stamps device.new) result }
         ensures clock { Ticks D.Counts
@@ -365,15 +365,15 @@ impl Journal {
         requires header { self.old.phase ≡ Phase.Header }
         requires none { meta.old.frozen.addresses ≡ [] }
         requires dirty { IsTransaction (D.shape device.old).vaddrs (dirty_pages meta.old) }
-        requires order { InOrder D.Counts device.old self.old meta.old.frozen }
+        requires order { JournalInOrder D.Counts device.old self.old meta.old.frozen }
         ensures formed { D.formed device.new }
-        ensures order { InOrder D.Counts device.new self.new meta.new.frozen }
+        ensures order { JournalInOrder D.Counts device.new self.new meta.new.frozen }
         ensures commits { CommitsDirty result self.old self.new meta.old meta.new }
         ensures writes { D.tells → HasNumber self.new (length meta.new.frozen.addresses)
-            → DirtyWrites D.Counts (IsCommitted result) self.old self.new meta.old meta.new device.old device.new }
-        ensures passes { Passes D.Counts (IsCommitted result) 512 device.old device.new }
-        ensures lost { IfLost result (IsLostStamp D.tells (D.stamps device.new)) }
-        ensures clock { Ticks D.Counts (IsCommitted result) device.old device.new }
+            → DirtyWrites D.Counts (CommitIsDone result) self.old self.new meta.old meta.new device.old device.new }
+        ensures passes { ChangesAddressesOnly D.Counts (CommitIsDone result) 512 device.old device.new }
+        ensures lost { IfCommitLost result (IsLostStamp D.tells (D.stamps device.new)) }
+        ensures clock { Ticks D.Counts (CommitIsDone result) device.old device.new }
         ensures faults { CallCounted D.Counts (result ≡ Committing.Fault) device.old device.new }
     {
         meta.freeze();
@@ -388,7 +388,7 @@ impl Journal {
     fn advance(&mut self, meta: &mut Meta) -> Unit
         requires phase { IsPhase self.old.phase (length meta.old.frozen.addresses) }
         requires some { 1 ≤ length meta.old.frozen.addresses }
-        ensures done { IsDone result }
+        ensures done { UnitIsDone result }
         ensures phase { IsPhase self.new.phase (length meta.new.frozen.addresses) }
         ensures advances { Advances result self.old self.new meta.old meta.new }
     {
@@ -421,7 +421,7 @@ impl Journal {
         requires below { i < count }
         requires count { count ≡ length meta.old.frozen.addresses }
         requires few { count ≤ 64 }
-        ensures done { IsDone result }
+        ensures done { UnitIsDone result }
         ensures phase { IsPhase self.new.phase (length meta.new.frozen.addresses) }
         ensures advances { Advances result self.old self.new meta.old meta.new }
     {

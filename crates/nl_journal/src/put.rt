@@ -6,7 +6,7 @@ ghost use Rattle.nl_iface.specs.Calls.{CallCounted, DoneOrFailed, LeavesAt, Take
 ghost use Rattle.nl_iface.specs.Stored.{Stored};
 ghost use Rattle.nl_journal.specs.Left.{LeavesRest};
 ghost use Rattle.nl_journal.specs.Outcomes.{May, NoMore, Tried, Within, Written, bytes_of};
-ghost use Rattle.nl_journal.specs.Passes.{Passes};
+ghost use Rattle.nl_journal.specs.Passes.{ChangesAddressesOnly};
 
 use nl_field::{PageBuf, VirtualWrite};
 use nl_iface::VirtualPages;
@@ -31,7 +31,7 @@ pub(crate) fn put<D: VirtualPages>(device: &mut D, vaddr: u32, from: &PageBuf) -
         (λ (c : Stored). Within (D.shape device.old).vaddrs (Written (May (D.map device.old) (D.failed device.old)) vaddr from.now.main) (bytes_of c.virtual)
         × LeavesRest (D.shape device.old).vaddrs (D.failed device.old) (stored D.Counts device.old) c)
         device.old device.new }
-    ensures passes { Passes D.Counts (result ≡ VirtualWrite.Done) 1 device.old device.new }
+    ensures passes { ChangesAddressesOnly D.Counts (result ≡ VirtualWrite.Done) 1 device.old device.new }
     ensures lost { LosesStamp D.tells (D.stamps device.new) result }
     ensures next_stamp { TakesStamp D.Counts
         (DoneOrFailed D.Counts (result ≡ VirtualWrite.Done) device.old device.new) device.old device.new }

@@ -4,9 +4,9 @@ ghost use Rattle.std.specs.List.{list_all};
 ghost use Rattle.nl_field.specs.Journal.{are_home_addresses};
 ghost use Rattle.nl_iface.specs.Calls.{OnlyReads, ReadsCounted};
 ghost use Rattle.nl_meta.specs.Committed.{within_volume};
-ghost use Rattle.nl_journal.specs.Opening.{IfThere, IsFault, SeenAt, TellsOf, are_there};
+ghost use Rattle.nl_journal.specs.Opening.{IfThere, IsSeenFault, SeenAt, SeesPage, are_there};
 ghost use Rattle.nl_journal.specs.Outcomes.{bytes_of};
-ghost use Rattle.nl_journal.specs.Restoring.{AreRestored, IsListing};
+ghost use Rattle.nl_journal.specs.Restoring.{AreRestored, IsVolumeHeader};
 ghost use Rattle.nl_journal.specs.Transaction.{head, mark};
 
 use nl_field::{AddressList, CommitRec, HeaderRec, PageBuf, Shape, VirtualRead};
@@ -28,7 +28,7 @@ pub(crate) fn see<D: VirtualPages>(device: &mut D, vaddr: u32, page: &mut PageBu
     ensures formed { D.formed device.new }
     ensures seen { D.tells → SeenAt (bytes_of (D.map device.old) vaddr) page.new.main result }
     ensures kept { OnlyReads D.Counts device.old device.new }
-    ensures faults { ReadsCounted D.Counts (IsFault result) device.old device.new }
+    ensures faults { ReadsCounted D.Counts (IsSeenFault result) device.old device.new }
 {
     match device.virtual_read(vaddr, page) {
         VirtualRead::Done => Seen::There,
@@ -48,7 +48,7 @@ pub(crate) fn header<D: VirtualPages>(
     requires formed { D.formed device.old }
     requires shape { shape.now ≡ D.shape device.old }
     ensures formed { D.formed device.new }
-    ensures spelled { IfSome result (λ o. IfSome o (λ h. (h.number < 2 ^ 63) × IsListing shape.now h)) }
+    ensures spelled { IfSome result (λ o. IfSome o (λ h. (h.number < 2 ^ 63) × IsVolumeHeader shape.now h)) }
     ensures header { D.tells → IfSome result (λ h. h ≡ head (D.shape device.old) (bytes_of (D.map device.old) 1)) }
     ensures kept { OnlyReads D.Counts device.old device.new }
     ensures faults { ReadsCounted D.Counts (result ≡ None) device.old device.new }
@@ -170,10 +170,10 @@ fn image<D: VirtualPages>(
     ensures formed { D.formed device.new }
     ensures count { length meta.new.running ≡ length meta.old.running }
     ensures inside { list_all (λ a. nat_lt a (length meta.new.running)) addresses.now ≡ true }
-    ensures tells { D.tells → TellsOf (bytes_of (D.map device.old) (2 + at)) result }
+    ensures tells { D.tells → SeesPage (bytes_of (D.map device.old) (2 + at)) result }
     ensures restored { IfThere result (AreRestored D.tells (bytes_of (D.map device.new)) addresses.now (at + 1) meta.new) }
     ensures kept { OnlyReads D.Counts device.old device.new }
-    ensures faults { ReadsCounted D.Counts (IsFault result) device.old device.new }
+    ensures faults { ReadsCounted D.Counts (IsSeenFault result) device.old device.new }
 {
     meta.stands();
     match see(device, 2 + at, page) {

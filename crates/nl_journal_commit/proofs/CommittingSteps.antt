@@ -4,7 +4,7 @@ use Rattle.std.specs.Prelude.{⊤, IfSome, MatchOption}
 use Rattle.std.proofs.lemmas.Bool.{cases_lt}
 use Rattle.nl_field.specs.CrashStates.{Earlier, Turns, top}
 use Rattle.nl_field.proofs.Crashes.{then, weaken}
-use Rattle.nl_iface.specs.Calls.{Leaves, stored}
+use Rattle.nl_iface.specs.Calls.{CrashStatesHave, stored}
 use Rattle.nl_iface.specs.Stored.{Stored, Value}
 use Rattle.nl_iface.specs.declared.counts.Counts.{Ghosts}
 use Rattle.nl_journal.specs.Committing.{ahead_on, committed_on, finished, finished_on}
@@ -21,7 +21,7 @@ use Rattle.std.specs.List.{list_any}
 use Rattle.std.proofs.lemmas.Bool.{cases_Bool}
 use Rattle.nl_meta.specs.Pages.{Frozen, Pages, dirty_pages, none_frozen, with_address}
 use Rattle.nl_meta.proofs.RunningProofs.{not-with}
-use Rattle.nl_journal_commit.specs.Completing.{DecidesAt, IsDecided, StaysOpen}
+use Rattle.nl_journal_commit.specs.Completing.{DecidesAt, IsDecided, StillAwaitsCommitPage}
 use Rattle.nl_journal_commit.specs.Counting.{with_frozen}
 
 pub if_some : (P : Type 0) (Q R : ℕ → Type 0) (o : Option ℕ) → MatchOption o P Q → ((m : ℕ) → Q m → R m) → IfSome o R
@@ -29,7 +29,7 @@ if_some P Q R None h by = tt
 if_some P Q R (Some m) h by = by m h
 
 -- whether a part was decided, as a record of what it answers has it
-pub is_decided_by : {D : Type 0} (g : Ghosts D) (s t : D) (p q : Progress) (pages : Pages) (now : Frozen) (o : Option ℕ) → MatchOption o (StaysOpen p q pages.frozen now) (DecidesAt g s t p q pages) → IsDecided o p q pages.frozen now
+pub is_decided_by : {D : Type 0} (g : Ghosts D) (s t : D) (p q : Progress) (pages : Pages) (now : Frozen) (o : Option ℕ) → MatchOption o (StillAwaitsCommitPage p q pages.frozen now) (DecidesAt g s t p q pages) → IsDecided o p q pages.frozen now
 is_decided_by g s t p q pages now None stays = stays
 is_decided_by g s t p q pages now (Some moment) d = (d.was_open, d.number)
 
@@ -72,7 +72,7 @@ first_is_dirty xs = ⊎_elim (λ is. is) (λ no. absurd ((not-with 0 xs 0 no).0 
 module _ {D : Type 0} (g : Ghosts D) where
   -- a transaction that was done was decided, later than the call began
   pub done_later : (mid new : D) (q r : Progress) (pages new_pages : Pages) (o : Option ℕ) → q.phase ≡ Header → 1 ≤ length pages.dirty
-      → MatchOption o (StaysOpen q r (dirty_pages pages) new_pages.frozen) (DecidesAt g mid new q r (with_frozen pages))
+      → MatchOption o (StillAwaitsCommitPage q r (dirty_pages pages) new_pages.frozen) (DecidesAt g mid new q r (with_frozen pages))
       → units_left r.phase (length new_pages.frozen.addresses) ≤ 0 → Earlier (g.clock mid) (g.clock new)
   done_later mid new q r pages new_pages None header some stays none below =
       let more : length new_pages.frozen.addresses < units_left r.phase (length new_pages.frozen.addresses) = stays (open_header q.phase (length pages.dirty) header some) in
@@ -118,8 +118,8 @@ module _ {D : Type 0} (g : Ghosts D) where
     OneOf = LeavesOneOf g old (committed_on g old) fin ahead
 
     -- the dirty pages were decided
-    pub changes_stops : (moment : ℕ) → Earlier (g.clock mid) moment → g.clock mid ≤ moment → Leaves g (Turns ⊤ moment (LeavesEither g mid (committed_on g mid) fin_mid) (LeavesOne g mid fin_mid)) mid new
-        → Leaves g (Turns ⊤ moment OneOf (LeavesOne g old ahead)) old new
+    pub changes_stops : (moment : ℕ) → Earlier (g.clock mid) moment → g.clock mid ≤ moment → CrashStatesHave g (Turns ⊤ moment (LeavesEither g mid (committed_on g mid) fin_mid) (LeavesOne g mid fin_mid)) mid new
+        → CrashStatesHave g (Turns ⊤ moment OneOf (LeavesOne g old ahead)) old new
     changes_stops moment strict from second = then (λ m c. Turns ⊤ moment OneOf (LeavesOne g old ahead) m (g.stored_of c))
         (weaken (λ m c. Turns done (g.clock mid) (LeavesEither g old (committed_on g old) fin) (LeavesOne g old fin) m (g.stored_of c)) (λ m c. Turns ⊤ moment OneOf (LeavesOne g old ahead) m (g.stored_of c)) w.left.stops
         (λ m c low high. ⊎_elim
@@ -131,9 +131,9 @@ module _ {D : Type 0} (g : Ghosts D) where
         (λ a. inr (last (g.stored_of c) a))))
 
     -- the frozen pages were
-    pub earlier_stops : (over : Type 0) (moment : ℕ) → Leaves g (Turns ⊤ moment (LeavesEither g old (committed_on g old) fin) (LeavesOne g old fin)) old mid
-        → Leaves g (Turns over (g.clock new) (LeavesEither g mid (committed_on g mid) fin_mid) (LeavesOne g mid fin_mid)) mid new
-        → Leaves g (Turns ⊤ moment OneOf (LeavesEither g old fin ahead)) old new
+    pub earlier_stops : (over : Type 0) (moment : ℕ) → CrashStatesHave g (Turns ⊤ moment (LeavesEither g old (committed_on g old) fin) (LeavesOne g old fin)) old mid
+        → CrashStatesHave g (Turns over (g.clock new) (LeavesEither g mid (committed_on g mid) fin_mid) (LeavesOne g mid fin_mid)) mid new
+        → CrashStatesHave g (Turns ⊤ moment OneOf (LeavesEither g old fin ahead)) old new
     earlier_stops over moment first second = then (λ m c. Turns ⊤ moment OneOf (LeavesEither g old fin ahead) m (g.stored_of c))
         (weaken (λ m c. Turns ⊤ moment (LeavesEither g old (committed_on g old) fin) (LeavesOne g old fin) m (g.stored_of c)) (λ m c. Turns ⊤ moment OneOf (LeavesEither g old fin ahead) m (g.stored_of c)) first
         (λ m c low high. ⊎_elim
@@ -144,8 +144,8 @@ module _ {D : Type 0} (g : Ghosts D) where
 
   -- it was decided, and not completed
   pub stopped_stops : (old new : D) (p : Progress) (pages : Pages) (moment : ℕ)
-      → Leaves g (Turns ⊤ moment (LeavesEither g old (committed_on g old) (finished_on g old p pages)) (LeavesOne g old (finished_on g old p pages))) old new
-      → Leaves g (Turns ⊤ moment (LeavesOneOf g old (committed_on g old) (finished_on g old p pages) (ahead_on g old p pages)) (LeavesEither g old (finished_on g old p pages) (ahead_on g old p pages))) old new
+      → CrashStatesHave g (Turns ⊤ moment (LeavesEither g old (committed_on g old) (finished_on g old p pages)) (LeavesOne g old (finished_on g old p pages))) old new
+      → CrashStatesHave g (Turns ⊤ moment (LeavesOneOf g old (committed_on g old) (finished_on g old p pages) (ahead_on g old p pages)) (LeavesEither g old (finished_on g old p pages) (ahead_on g old p pages))) old new
   stopped_stops old new p pages moment first =
       weaken (λ m c. Turns ⊤ moment (LeavesEither g old (committed_on g old) (finished_on g old p pages)) (LeavesOne g old (finished_on g old p pages)) m (g.stored_of c))
       (λ m c. Turns ⊤ moment (LeavesOneOf g old (committed_on g old) (finished_on g old p pages) (ahead_on g old p pages)) (LeavesEither g old (finished_on g old p pages) (ahead_on g old p pages)) m (g.stored_of c)) first

@@ -3,7 +3,7 @@ use Rattle.std.proofs.Common.{◌≡◌, ◌⊎◌, true, inl, inr, ⊎_elim, �
 use Rattle.std.specs.Prelude.{⊤}
 use Rattle.nl_field.specs.CrashStates.{Turns}
 use Rattle.nl_field.proofs.Crashes.{then, weaken}
-use Rattle.nl_iface.specs.Calls.{Leaves, stored}
+use Rattle.nl_iface.specs.Calls.{CrashStatesHave, stored}
 use Rattle.nl_iface.specs.Stored.{Stored, Value}
 use Rattle.nl_iface.specs.declared.counts.Counts.{Ghosts}
 use Rattle.nl_journal.specs.Committing.{committed_on, finished, finished_on, is_decided}
@@ -11,7 +11,7 @@ use Rattle.nl_journal.specs.Left.{FinishWrites, LeavesEither, LeavesOne, LeavesR
 use Rattle.nl_journal.specs.Outcomes.{Agrees, bytes_of}
 use Rattle.nl_journal.specs.Homes.{BringsHome}
 use Rattle.nl_journal.specs.Progress.{IsPhase, Progress, begun, begun_in, units_left}
-use Rattle.nl_journal.specs.Standing.{InOrder}
+use Rattle.nl_journal.specs.Standing.{JournalInOrder}
 use Rattle.nl_journal.specs.Units.{Finishes}
 use Rattle.nl_journal.specs.declared.answers.Phase.{Phase}
 use Rattle.nl_journal.specs.declared.answers.Phase.TheVariants.{Header, Image, Commit, Home}
@@ -20,12 +20,12 @@ use Rattle.nl_journal.proofs.FinishSteps.{agrees_by, commits_by, no_addresses, n
 use Rattle.nl_journal.proofs.Stops.{at_then}
 use Rattle.nl_meta.specs.Committed.{VirtualMap}
 use Rattle.nl_meta.specs.Pages.{Frozen, Pages, none_frozen}
-use Rattle.nl_journal_commit.specs.Completing.{IsOpen}
+use Rattle.nl_journal_commit.specs.Completing.{AwaitsCommitPage}
 use Rattle.nl_journal_commit.specs.Standing.{WritesFrozen}
 
 -- ---- what the calls say
 
-pub writes_frozen : {D : Type 0} (g : Ghosts D) (s t : D) (p q : Progress) (pages now : Pages) (until : ℕ) (done : Type 0) → g.shape t ≡ g.shape s → InOrder g t q now.frozen → Finishes until done p q pages now
+pub writes_frozen : {D : Type 0} (g : Ghosts D) (s t : D) (p q : Progress) (pages now : Pages) (until : ℕ) (done : Type 0) → g.shape t ≡ g.shape s → JournalInOrder g t q now.frozen → Finishes until done p q pages now
     → (g.tells → BringsHome (g.shape s).vaddrs p q pages.frozen now.frozen (bytes_of (g.map s)) (bytes_of (g.map t))) → WritesFrozen g s p pages t q now
 writes_frozen g s t p q pages now until done same order f home = record { same_shape = same; order = order; kept = f.kept; frozen = f.frozen; home = home }
 
@@ -67,7 +67,7 @@ closed_pages phase frozen base count (inl none) v home = sym (none_left phase fr
 closed_pages phase frozen base count (inr decided) v home = sym (finished_decided phase frozen base v decided)
 
 -- a unit that was not done leaves it to be written
-pub open_still : (p q : Progress) (pages now : Pages) (until : ℕ) (done : Type 0) → (done → ⊥) → until ≡ length pages.frozen.addresses → Finishes until done p q pages now → IsOpen q now.frozen
+pub open_still : (p q : Progress) (pages now : Pages) (until : ℕ) (done : Type 0) → (done → ⊥) → until ≡ length pages.frozen.addresses → Finishes until done p q pages now → AwaitsCommitPage q now.frozen
 open_still p q pages now until done off is f =
     let more = f.more off in
     let same : length now.frozen.addresses ≡ length pages.frozen.addresses = ap (λ (x : Frozen). length x.addresses) (f.waits off) in
@@ -115,7 +115,7 @@ module _ {D : Type 0} (g : Ghosts D) (old mid new : D) (p q r : Progress) (pages
         (λ c is. let one = only_all c is in (inr one.0, one.1)) all_then;
   }
 
-  pub complete_stops : Leaves g (Turns ⊤ (g.clock mid) (LeavesEither g old (committed_on g old) all) (LeavesOne g old all)) old new
+  pub complete_stops : CrashStatesHave g (Turns ⊤ (g.clock mid) (LeavesEither g old (committed_on g old) all) (LeavesOne g old all)) old new
   complete_stops = then (λ m c. Turns ⊤ (g.clock mid) (LeavesEither g old (committed_on g old) all) (LeavesOne g old all) m (g.stored_of c))
       (weaken (λ m c. Turns done (g.clock mid) (LeavesEither g old (committed_on g old) all) (LeavesOne g old all) m (g.stored_of c)) (λ m c. Turns ⊤ (g.clock mid) (LeavesEither g old (committed_on g old) all) (LeavesOne g old all) m (g.stored_of c)) w.left.stops
       (λ m c from to. ⊎_elim (λ was. inl ((λ o. was.0 is_done), was.1)) (λ a. inr a)))

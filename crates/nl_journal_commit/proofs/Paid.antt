@@ -9,7 +9,7 @@ use Rattle.nl_journal.specs.declared.answers.Phase.{Phase}
 use Rattle.nl_journal.specs.declared.answers.Phase.TheVariants.{Header, Image, Commit, Home}
 use Rattle.nl_journal.proofs.CommitSteps.{begun_header, begun_none}
 use Rattle.nl_meta.specs.Pages.{Frozen, Pages}
-use Rattle.nl_journal_commit.specs.Completing.{DecidesAt, NumberPaid, StaysOpen, spelled}
+use Rattle.nl_journal_commit.specs.Completing.{DecidesAt, NumberPaid, StillAwaitsCommitPage, spelled}
 use Rattle.nl_journal_commit.proofs.CompletingSteps.{closed_by, closed_number}
 
 -- ---- the number of the last transaction that was begun
@@ -54,7 +54,7 @@ open_begun (Home i) number pages more = absurd (let no : ⊥ = omega (arith, mor
 
 module _ {D : Type 0} (g : Ghosts D) (s t : D) (p q : Progress) (pages : Pages) (now : Frozen) (clock : g.clock s ≤ g.clock t) (at : IsPhase p.phase (length pages.frozen.addresses))
     (number : (q.number ≡ p.number) ⊎ (q.number ≡ begun p (length pages.frozen.addresses))) (stays : begun q (length now.addresses) ≡ begun p (length pages.frozen.addresses)) where
-  all_same : q.number ≡ begun p (length pages.frozen.addresses) → StaysOpen p q pages.frozen now → spelled q.number ≤ spelled p.number
+  all_same : q.number ≡ begun p (length pages.frozen.addresses) → StillAwaitsCommitPage p q pages.frozen now → spelled q.number ≤ spelled p.number
   all_same all opens = ⊎_elim
       (λ more.
       let next = open_begun q.phase q.number (length now.addresses) (opens more) in
@@ -65,7 +65,7 @@ module _ {D : Type 0} (g : Ghosts D) (s t : D) (p q : Progress) (pages : Pages) 
       omega (arith, all, same))
       (cases_lt (length pages.frozen.addresses) (units_left p.phase (length pages.frozen.addresses)))
 
-  pub part_paid : (o : Option ℕ) → MatchOption o (StaysOpen p q pages.frozen now) (DecidesAt g s t p q pages) → NumberPaid (g.clock s) p.number (g.clock t) q.number
+  pub part_paid : (o : Option ℕ) → MatchOption o (StillAwaitsCommitPage p q pages.frozen now) (DecidesAt g s t p q pages) → NumberPaid (g.clock s) p.number (g.clock t) q.number
   part_paid None opens low = ⊎_elim
       (λ same. omega (arith, clock, same))
       (λ all. let less = all_same all opens in omega (arith, clock, less))

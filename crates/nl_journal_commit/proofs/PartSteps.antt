@@ -8,7 +8,7 @@ use Rattle.nl_meta.specs.Pages.{Pages}
 use Rattle.nl_meta.specs.Running.{running_over}
 use Rattle.nl_meta_running.specs.Running.{IsNeeded, running_on}
 use Rattle.nl_journal_commit.specs.Counting.{with_frozen}
-use Rattle.nl_journal_commit.specs.Standing.{StandsOn}
+use Rattle.nl_journal_commit.specs.Standing.{PreservesGraph}
 
 module _ {D : Type 0} (g : Ghosts D) (s : D) (pages : Pages) where
   -- freezing changes no running page
@@ -16,7 +16,7 @@ module _ {D : Type 0} (g : Ghosts D) (s : D) (pages : Pages) where
   unfolding running_over
   frozen_runs = refl
 
-  pub stands_frozen : (t : D) (q : Progress) (now : Pages) → StandsOn g s pages t q now → StandsOn g s (with_frozen pages) t q now
+  pub stands_frozen : (t : D) (q : Progress) (now : Pages) → PreservesGraph g s pages t q now → PreservesGraph g s (with_frozen pages) t q now
   stands_frozen t q now stands = record {
     journaled = stands.journaled;
     needed = subst (λ (m : VirtualMap). (v : ℕ) → IsNeeded (g.shape s) m v → running_on g t now v ≡ m v) (sym frozen_runs) stands.needed;

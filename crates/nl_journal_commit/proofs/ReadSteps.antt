@@ -10,18 +10,18 @@ use Rattle.nl_iface.specs.declared.counts.Counts.{Ghosts}
 use Rattle.nl_journal.specs.Homes.{AreHome, copied}
 use Rattle.nl_journal.specs.Outcomes.{bytes_of}
 use Rattle.nl_journal.specs.Progress.{Progress}
-use Rattle.nl_journal.specs.Standing.{InOrder}
+use Rattle.nl_journal.specs.Standing.{JournalInOrder}
 use Rattle.nl_journal.proofs.InOrders.{stays}
 use Rattle.nl_meta.specs.Pages.{Frozen, Pages, is_dirty, page_of}
-use Rattle.nl_meta_running.specs.Running.{RunsOn, running_on}
+use Rattle.nl_meta_running.specs.Running.{PreservesRunning, running_on}
 use Rattle.nl_meta_running.proofs.Holds.{bounds-of}
 use Rattle.nl_meta_running.proofs.Kept.{runs-then}
 use Rattle.nl_meta_running.proofs.GraphStays.{graph-same}
 use Rattle.nl_meta.specs.Nodes.{graph_of}
-use Rattle.nl_journal_commit.specs.Standing.{HasFrozen, IsJournaled, ReadsStand, StandsOn}
+use Rattle.nl_journal_commit.specs.Standing.{HasFrozen, IsJournaled, ReadsPreserveGraph, PreservesGraph}
 use Rattle.nl_journal_commit.proofs.Places.{low_of}
 
-module _ {D : Type 0} (g : Ghosts D) (s t : D) (p : Progress) (pages now : Pages) (volume : IsVolumeShape (g.shape s)) (j : IsJournaled g s p pages) (on : RunsOn g s pages t now) where
+module _ {D : Type 0} (g : Ghosts D) (s t : D) (p : Progress) (pages now : Pages) (volume : IsVolumeShape (g.shape s)) (j : IsJournaled g s p pages) (on : PreservesRunning g s pages t now) where
   bounds : ShapeBounds (g.shape s)
   bounds = bounds-of (g.shape s) volume
 
@@ -48,11 +48,11 @@ module _ {D : Type 0} (g : Ghosts D) (s t : D) (p : Progress) (pages now : Pages
   map_same : g.tells → (v : ℕ) → bytes_of (g.map t) v ≡ bytes_of (g.map s) v
   map_same tells v = ap (λ o. option_map (λ (x : Value). x.1) o) (on.reads.medium.virtual.same_map tells v)
 
-  pub reads_on : StandsOn g s pages t p now
+  pub reads_on : PreservesGraph g s pages t p now
   reads_on = record {
     journaled = record {
       runs = runs-then g s pages t now bounds on j.runs;
-      order = subst (λ (x : Frozen). InOrder g t p x) (sym on.frozen) (stays g s t p pages.frozen volume j.order on.reads.medium.virtual).0;
+      order = subst (λ (x : Frozen). JournalInOrder g t p x) (sym on.frozen) (stays g s t p pages.frozen volume j.order on.reads.medium.virtual).0;
       home = λ tells. subst (λ (x : Frozen). AreHome x (copied p.phase) (bytes_of (g.map t))) (sym on.frozen) (λ i lt. map_same tells (at i) ∙ j.home tells i lt);
       frozen = subst (λ (x : Frozen). HasFrozen (record now { frozen = x })) (sym on.frozen) has_frozen;
       super_page = ap is_some (on.stays 0 j.super_page) ∙ j.super_page;
@@ -62,5 +62,5 @@ module _ {D : Type 0} (g : Ghosts D) (s t : D) (p : Progress) (pages now : Pages
     graph = ap (λ (h : Shape). graph_of h (running_on g t now)) on.reads.medium.virtual.same_shape ∙ graph-same (g.shape s) bounds (running_on g s pages) (running_on g t now) on.needed;
   }
 
-pub reads_stand : {D : Type 0} (g : Ghosts D) → ReadsStand g
+pub reads_stand : {D : Type 0} (g : Ghosts D) → ReadsPreserveGraph g
 reads_stand g s t p pages now volume j on = reads_on g s t p pages now volume j on

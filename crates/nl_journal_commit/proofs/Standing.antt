@@ -27,21 +27,21 @@ use Rattle.nl_meta.specs.Running.{CleanIsStored, or_stored, running_over}
 use Rattle.nl_meta.specs.Steps.{with_dirty}
 use Rattle.nl_meta.proofs.Lists.{some_in}
 use Rattle.nl_meta.proofs.RunningProofs.{not-with, running_map}
-use Rattle.nl_meta_running.specs.Running.{IsNeeded, Runs, running_on, stored_on}
+use Rattle.nl_meta_running.specs.Running.{IsNeeded, RunningIsRight, running_on, stored_on}
 use Rattle.nl_meta_running.proofs.GraphStays.{graph-same}
 use Rattle.nl_meta_running.proofs.Holds.{bounds-of}
 use Rattle.nl_meta_running.proofs.SameNeeded.{addresses-right, entries-right, needed-from, needed-to, nodes-right}
-use Rattle.nl_journal_commit.specs.Standing.{ChangesCanFreeze, FreezingStands, HasFrozen, IsJournaled, AddressesStand, StandsOn, SuperPageStands, WritesFrozen, WritingStands}
+use Rattle.nl_journal_commit.specs.Standing.{ChangesCanFreeze, FreezingPreservesGraph, HasFrozen, IsJournaled, AddressesPreserveGraph, PreservesGraph, SuperPagePreservesGraph, WritesFrozen, WritingPreservesGraph}
 use Rattle.nl_journal_commit.proofs.Places.{absent_no_place, has_at, index_of, low_of, needed_home, no_place, resident_below, same_bytes, some_bytes}
 
 module _ {D : Type 0} (g : Ghosts D) where
   -- where the pages that nodes need are what they were, all runs on
-  module _ (s t : D) (pages now : Pages) (bounds : ShapeBounds (g.shape s)) (same_shape : g.shape t ≡ g.shape s) (runs : Runs g s pages) (count : length now.running ≡ length pages.running)
+  module _ (s t : D) (pages now : Pages) (bounds : ShapeBounds (g.shape s)) (same_shape : g.shape t ≡ g.shape s) (runs : RunningIsRight g s pages) (count : length now.running ≡ length pages.running)
       (needed : (v : ℕ) → IsNeeded (g.shape s) (running_on g s pages) v → running_on g t now v ≡ running_on g s pages v) where
     same-graph : graph_of (g.shape t) (running_on g t now) ≡ graph_of (g.shape s) (running_on g s pages)
     same-graph = ap (λ (h : Shape). graph_of h (running_on g t now)) same_shape ∙ graph-same (g.shape s) bounds (running_on g s pages) (running_on g t now) needed
 
-    runs-on : ((v : ℕ) → IsNeeded (g.shape s) (running_on g s pages) v → page_of now v ≡ None → g.tells) → (g.tells → CleanIsStored (stored_on g t) now) → Runs g t now
+    runs-on : ((v : ℕ) → IsNeeded (g.shape s) (running_on g s pages) v → page_of now v ≡ None → g.tells) → (g.tells → CleanIsStored (stored_on g t) now) → RunningIsRight g t now
     runs-on absent clean = record {
       count = count ∙ runs.count ∙ ap (λ (h : Shape). h.vaddrs) (sym same_shape);
       nodes = subst (λ (h : Shape). NodesRight h (running_on g t now)) (sym same_shape) (nodes-right (g.shape s) bounds (running_on g s pages) (running_on g t now) needed runs.nodes);
@@ -148,7 +148,7 @@ module _ {D : Type 0} (g : Ghosts D) where
         absurd-or : now.frozen ≡ pages.frozen → now.frozen ≡ none_frozen → AreHome now.frozen (copied q.phase) (bytes_of (g.map t))
         absurd-or kept none = no-home q.phase (phase_of_none q.phase (subst (λ (x : Frozen). IsPhase q.phase (length x.addresses)) none w.order.phase)) now.frozen (bytes_of (g.map t))
 
-    pub writing-stands : StandsOn g s pages t q now
+    pub writing-stands : PreservesGraph g s pages t q now
     writing-stands = record {
       journaled = record {
         runs = runs-on s t pages now bounds w.same_shape j.runs (ap (λ (n : Pages). length n.running) w.kept) needed-same (λ v need gone. j.runs.absent v need (sym (page-same v) ∙ gone)) clean-now;
@@ -162,12 +162,12 @@ module _ {D : Type 0} (g : Ghosts D) where
       graph = same-graph s t pages now bounds w.same_shape j.runs (ap (λ (n : Pages). length n.running) w.kept) needed-same;
     }
 
-  pub writing_stands : WritingStands g
+  pub writing_stands : WritingPreservesGraph g
   writing_stands s t p q pages now volume j w = writing-stands s t p q pages now volume j w
 
   -- ---- the dirty pages are frozen
 
-  pub freezing_stands : FreezingStands g
+  pub freezing_stands : FreezingPreservesGraph g
   freezing_stands s p pages volume j held can = record {
     journaled = record {
       runs = runs-on s s pages now (bounds-of (g.shape s) volume) refl j.runs refl needed (λ v need gone. j.runs.absent v need gone)
@@ -209,7 +209,7 @@ module _ {D : Type 0} (g : Ghosts D) where
 
   -- ---- the super page
 
-  pub super_page_stands : SuperPageStands g
+  pub super_page_stands : SuperPagePreservesGraph g
   super_page_stands s p pages bytes volume j = record {
     journaled = record {
       runs = runs-on s s pages now (bounds-of (g.shape s) volume) refl j.runs (length-set pages.running 0 (Some bytes)) needed (λ v need gone. j.runs.absent v need (sym (other v (far v need)) ∙ gone))
@@ -250,7 +250,7 @@ module _ {D : Type 0} (g : Ghosts D) where
 
   -- ---- what keeps the addresses
 
-  pub addresses_stand : AddressesStand g
+  pub addresses_stand : AddressesPreserveGraph g
   addresses_stand s t p pages volume j k = record {
     journaled = record {
       runs = runs-on s t pages pages (bounds-of (g.shape s) volume) k.same_shape j.runs refl needed (λ v need gone. j.runs.absent v need gone)
@@ -276,7 +276,7 @@ module _ {D : Type 0} (g : Ghosts D) where
 
   -- ---- one step after the other
 
-  pub stands_then : (s m t : D) (q r : Progress) (pages mid now : Pages) → IsVolumeShape (g.shape s) → g.shape m ≡ g.shape s → StandsOn g s pages m q mid → StandsOn g m mid t r now → StandsOn g s pages t r now
+  pub stands_then : (s m t : D) (q r : Progress) (pages mid now : Pages) → IsVolumeShape (g.shape s) → g.shape m ≡ g.shape s → PreservesGraph g s pages m q mid → PreservesGraph g m mid t r now → PreservesGraph g s pages t r now
   stands_then s m t q r pages mid now volume same first next = record {
     journaled = next.journaled;
     needed = λ v need. next.needed v (subst (λ (h : Shape). IsNeeded h (running_on g m mid) v) (sym same) (needed-to (g.shape s) (bounds-of (g.shape s) volume) (running_on g s pages) (running_on g m mid) first.needed v need)) ∙ first.needed v need;

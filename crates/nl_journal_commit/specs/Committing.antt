@@ -3,13 +3,13 @@ use Rattle.std.specs.Prelude.{◌≡◌, ◌⊎◌, ℕ, ◌≤◌, ⊤, length,
 use Rattle.nl_field.specs.CrashStates.{Earlier, Turns}
 use Rattle.nl_field.specs.declared.answers.VirtualWrite.{VirtualWrite}
 use Rattle.nl_field.specs.declared.answers.VirtualWrite.TheVariants as write
-use Rattle.nl_iface.specs.Calls.{Leaves}
+use Rattle.nl_iface.specs.Calls.{CrashStatesHave}
 use Rattle.nl_iface.specs.Stored.{Stored}
 use Rattle.nl_iface.specs.declared.counts.Counts.{Ghosts}
 use Rattle.nl_journal.specs.Committing.{ahead_on, committed_on, finished_on}
 use Rattle.nl_journal.specs.Left.{LeavesEither, LeavesOne, LeavesOneOf}
 use Rattle.nl_journal.specs.Progress.{HasNumber, Progress, begun, next_after}
-use Rattle.nl_journal.specs.Units.{Ends, Waits}
+use Rattle.nl_journal.specs.Units.{EndsCommit, Waits}
 use Rattle.nl_meta.specs.Pages.{IsPages, Pages, dirty_pages}
 use Rattle.nl_journal_commit.specs.Completing.{Completes, IsDecided, NumberPaid}
 use Rattle.nl_journal_commit.specs.Counting.{with_frozen}
@@ -18,7 +18,7 @@ use Rattle.nl_journal_commit.specs.Standing.{CanFreeze}
 -- Once a commit is done nothing is frozen or dirty, and the number is that of the last transaction; else the pages in memory wait, as they
 -- were or with the dirty ones frozen.
 pub record CommitsPages (done : Type 0) (old new : Progress) (pages now : Pages) : Type 0 where
-  pub ends : done → Ends (next_after (begun old (length pages.frozen.addresses))) old new pages now
+  pub ends : done → EndsCommit (next_after (begun old (length pages.frozen.addresses))) old new pages now
   pub waits : (done → ⊥) → Waits pages now
   pub running : now.running ≡ pages.running
 
@@ -30,7 +30,7 @@ pub record CommitsAt {D : Type 0} (g : Ghosts D) (old new : D) (p r : Progress) 
   pub from : g.clock old ≤ moment
   pub to : moment ≤ g.clock new
   pub stops : g.tells → HasNumber r (length now.frozen.addresses)
-      → Leaves g (Turns ⊤ moment (LeavesOneOf g old (committed_on g old) (finished_on g old p pages) (ahead_on g old p pages)) A) old new
+      → CrashStatesHave g (Turns ⊤ moment (LeavesOneOf g old (committed_on g old) (finished_on g old p pages) (ahead_on g old p pages)) A) old new
 
 -- The commit page of the transaction that was frozen before was finished at this moment: from then on a stop leaves its pages committed,
 -- or the dirty ones too.
@@ -57,7 +57,7 @@ pub record CommitsInParts {D : Type 0} (g : Ghosts D) (done : Type 0) (earlier d
       × Completes g done between halfway (with_frozen rest) t r now × IsDecided decided halfway r (dirty_pages rest) now.frozen)
 
 -- What a whole commit does to the pages in memory, its two parts, and how far the number of transactions rises.
-pub record Commits {D : Type 0} (g : Ghosts D) (done : Type 0) (earlier decided : Option ℕ) (s : D) (p : Progress) (pages : Pages) (t : D)
+pub record CommitsWhole {D : Type 0} (g : Ghosts D) (done : Type 0) (earlier decided : Option ℕ) (s : D) (p : Progress) (pages : Pages) (t : D)
     (r : Progress) (now : Pages) : Type 0 where
   pub in_memory : CommitsPages done p r pages now
   pub parts : CommitsInParts g done earlier decided s p pages t r now

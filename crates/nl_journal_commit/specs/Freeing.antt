@@ -4,7 +4,7 @@ use Rattle.nl_field.specs.declared.pointer.Pointer.{Pointer}
 use Rattle.nl_iface.specs.Names.{Drops, Names, leads, place_of}
 use Rattle.nl_iface.specs.Space.{Freed}
 use Rattle.nl_spec_holders.specs.Holding.{Holding, HoldsPages}
-use Rattle.nl_spec_holders.specs.Laws.{Keeps, OldNamesDiffer}
+use Rattle.nl_spec_holders.specs.Laws.{PreservesHolding, OldNamesDiffer}
 
 -- The page to which the pointer leads is live no longer, and the names that led to it are gone with their callbacks.
 pub record FreesPage (p : Pointer) (s t : Names) : Type 0 where
@@ -33,7 +33,7 @@ pub record AreDue (front rest : List Pointer) (v : Holding) : Type 0 where
 abbrev pub FreeingKeeps : Type 0
 FreeingKeeps =
     (v : Holding) (front rest : List Pointer) (t : Names) → AreDue front rest v → FreesEach front v.names t
-    → Keeps v (record v { names = t; freeing = rest; due = 0 })
+    → PreservesHolding v (record v { names = t; freeing = rest; due = 0 })
 
 -- Where each live page is held once, the pages that are due are live no longer once they are freed, and the others still are: so many fewer
 -- are live.

@@ -3,11 +3,11 @@ ghost use Rattle.std.specs.Prelude.{◌≡◌, ◌<◌, ◌≤◌, ◌+◌, ◌^
 ghost use Rattle.nl_iface.specs.Answers.{LosesStamp};
 ghost use Rattle.nl_iface.specs.Calls.{CallCounted};
 ghost use Rattle.nl_journal.specs.Left.{CommitWrites};
-ghost use Rattle.nl_journal.specs.Passes.{Passes};
+ghost use Rattle.nl_journal.specs.Passes.{ChangesAddressesOnly};
 ghost use Rattle.nl_journal.specs.Progress.{HasNumber};
-ghost use Rattle.nl_journal_commit.specs.Committing.{ChangesAt, Commits, EarlierAt};
+ghost use Rattle.nl_journal_commit.specs.Committing.{ChangesAt, CommitsWhole, EarlierAt};
 ghost use Rattle.nl_journal_commit.specs.Counting.{with_count};
-ghost use Rattle.nl_journal_commit.specs.Standing.{IsJournaled, StandsOn};
+ghost use Rattle.nl_journal_commit.specs.Standing.{IsJournaled, PreservesGraph};
 
 use crate::changes::commit_changes;
 use crate::completing::complete;
@@ -44,8 +44,8 @@ pub fn commit<D: VirtualPages>(
     requires journaled { IsJournaled D.Counts device.old journal.old meta.old }
     requires count { count < 2 ^ 63 }
     ensures formed { D.formed device.new }
-    ensures stands { StandsOn D.Counts device.old meta.old device.new journal.new meta.new }
-    ensures commits { Commits D.Counts (result.answer ≡ VirtualWrite.Done) result.earlier result.decided device.old journal.old
+    ensures stands { PreservesGraph D.Counts device.old meta.old device.new journal.new meta.new }
+    ensures commits { CommitsWhole D.Counts (result.answer ≡ VirtualWrite.Done) result.earlier result.decided device.old journal.old
         (with_count shape.now count meta.old) device.new journal.new meta.new }
     ensures earlier { IfSome result.earlier
         (EarlierAt D.Counts device.old device.new journal.old journal.new (with_count shape.now count meta.old) meta.new) }
@@ -53,7 +53,7 @@ pub fn commit<D: VirtualPages>(
         (ChangesAt D.Counts device.old device.new journal.old journal.new (with_count shape.now count meta.old) meta.new) }
     ensures writes { D.tells → HasNumber journal.new (length meta.new.frozen.addresses) → CommitWrites D.Counts
         (result.answer ≡ VirtualWrite.Done) journal.old journal.new (with_count shape.now count meta.old) meta.new device.old device.new }
-    ensures passes { Passes D.Counts (result.answer ≡ VirtualWrite.Done) 512 device.old device.new }
+    ensures passes { ChangesAddressesOnly D.Counts (result.answer ≡ VirtualWrite.Done) 512 device.old device.new }
     ensures lost { LosesStamp D.tells (D.stamps device.new) result.answer }
     ensures clock { D.clock device.old ≤ D.clock device.new }
     ensures faults { CallCounted D.Counts (result.answer ≡ VirtualWrite.Fault) device.old device.new }

@@ -3,11 +3,11 @@ ghost use Rattle.std.specs.Prelude.{◌≡◌, ◌≤◌, ◌+◌, ◌^◌, leng
 ghost use Rattle.nl_iface.specs.Answers.{LosesStamp};
 ghost use Rattle.nl_iface.specs.Calls.{CallCounted};
 ghost use Rattle.nl_journal.specs.Left.{FinishWrites};
-ghost use Rattle.nl_journal.specs.Passes.{Passes};
+ghost use Rattle.nl_journal.specs.Passes.{ChangesAddressesOnly};
 ghost use Rattle.nl_journal.specs.Progress.{HasNumber};
 ghost use Rattle.nl_journal.specs.Units.{Finishes};
-ghost use Rattle.nl_journal_commit.specs.Completing.{DecidesAt, StaysOpen};
-ghost use Rattle.nl_journal_commit.specs.Standing.{IsJournaled, StandsOn};
+ghost use Rattle.nl_journal_commit.specs.Completing.{DecidesAt, StillAwaitsCommitPage};
+ghost use Rattle.nl_journal_commit.specs.Standing.{IsJournaled, PreservesGraph};
 
 use nl_field::VirtualWrite;
 use nl_iface::VirtualPages;
@@ -35,13 +35,13 @@ pub fn complete<D: VirtualPages>(
     requires stamp { D.next_stamp device.old + 256 ≤ 2 ^ 63 }
     requires journaled { IsJournaled D.Counts device.old journal.old meta.old }
     ensures formed { D.formed device.new }
-    ensures stands { StandsOn D.Counts device.old meta.old device.new journal.new meta.new }
+    ensures stands { PreservesGraph D.Counts device.old meta.old device.new journal.new meta.new }
     ensures finishes { Finishes 0 (result.answer ≡ VirtualWrite.Done) journal.old journal.new meta.old meta.new }
-    ensures decided { MatchOption result.decided (StaysOpen journal.old journal.new meta.old.frozen meta.new.frozen)
+    ensures decided { MatchOption result.decided (StillAwaitsCommitPage journal.old journal.new meta.old.frozen meta.new.frozen)
         (DecidesAt D.Counts device.old device.new journal.old journal.new meta.old) }
     ensures writes { D.tells → HasNumber journal.old (length meta.old.frozen.addresses)
         → FinishWrites D.Counts (result.answer ≡ VirtualWrite.Done) journal.old journal.new meta.old meta.new device.old device.new }
-    ensures passes { Passes D.Counts (result.answer ≡ VirtualWrite.Done) 256 device.old device.new }
+    ensures passes { ChangesAddressesOnly D.Counts (result.answer ≡ VirtualWrite.Done) 256 device.old device.new }
     ensures lost { LosesStamp D.tells (D.stamps device.new) result.answer }
     ensures clock { D.clock device.old ≤ D.clock device.new }
     ensures faults { CallCounted D.Counts (result.answer ≡ VirtualWrite.Fault) device.old device.new }

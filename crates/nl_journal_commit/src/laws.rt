@@ -1,7 +1,7 @@
 //! Laws of a commit: the metadata stands on, and each live page is held once as pages are freed. A function stands for each law.
 ghost use Rattle.nl_journal_commit.specs.Freeing.{FreeingKeeps, FreesAll};
-ghost use Rattle.nl_journal_commit.specs.Holding.{HoldersStand};
-ghost use Rattle.nl_journal_commit.specs.Standing.{AddressesStand, ChangesCanFreeze, FreezingStands, ReadsStand, SuperPageStands, WritingStands};
+ghost use Rattle.nl_journal_commit.specs.Holding.{HoldersArePreserved};
+ghost use Rattle.nl_journal_commit.specs.Standing.{AddressesPreserveGraph, ChangesCanFreeze, FreezingPreservesGraph, ReadsPreserveGraph, SuperPagePreservesGraph, WritingPreservesGraph};
 
 use nl_iface::VirtualPages;
 
@@ -15,15 +15,15 @@ pub fn freeing_keeps()
 /// A commit leaves the metadata as it runs: writes of the journal, the freezing of the dirty pages, which can be frozen where the super
 /// page is one of them, another super page, what leaves the addresses as they were, and reads.
 pub fn metadata_stands<D: VirtualPages>()
-    ensures writing { WritingStands D.Counts }
+    ensures writing { WritingPreservesGraph D.Counts }
     ensures changes { ChangesCanFreeze D.Counts }
-    ensures freezing { FreezingStands D.Counts }
-    ensures super_page { SuperPageStands D.Counts }
-    ensures addresses { AddressesStand D.Counts }
-    ensures reads { ReadsStand D.Counts }
+    ensures freezing { FreezingPreservesGraph D.Counts }
+    ensures super_page { SuperPagePreservesGraph D.Counts }
+    ensures addresses { AddressesPreserveGraph D.Counts }
+    ensures reads { ReadsPreserveGraph D.Counts }
 {}
 
 /// Where the metadata stands on and no name changes, each live page is held as before, and what is committed leads.
 pub fn holders_stand<D: VirtualPages>()
-    ensures { HoldersStand D.Counts }
+    ensures { HoldersArePreserved D.Counts }
 {}

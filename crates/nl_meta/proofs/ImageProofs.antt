@@ -18,7 +18,7 @@ use Rattle.nl_field.specs.declared.seen.Seen.{Seen}
 use Rattle.nl_field.specs.declared.spare.SpareRec.{SpareRec}
 use Rattle.nl_field.specs.declared.spare.SpareRec.TheVariants.{Virtual, Physical}
 use Rattle.nl_field.proofs.ScanLists.{physical_is}
-use Rattle.nl_meta.specs.Consistent.{IsListed, IsThere, PageOfStamp, SamePage, StampsRight, of_file, page_on, tag_on}
+use Rattle.nl_meta.specs.Consistent.{IsListed, PointerIsThere, PageOfStamp, SamePage, StampsRight, of_file, page_on, tag_on}
 use Rattle.nl_meta.specs.Nodes.{Held}
 use Rattle.nl_meta.specs.RightLaws.{ImageIsRight}
 use Rattle.nl_meta.proofs.Lists.{some_in, none_some, true_false, all-each, find-some, member-find, member-filter, member-some, member-enumerate, member-map}
@@ -182,7 +182,7 @@ module _ (image : Image) where
       o = owned f.0 n.0
 
   -- the page of a stamp is that of a pointer, where pages of one stamp are the same
-  pub page_there : IsTrue (is_image image) → StampsRight (physical_pages image) → (h : Held) → IsListed (physical_seen (shape_of_image image) (seen_in image)) h → IsThere (page_on image) h
+  pub page_there : IsTrue (is_image image) → StampsRight (physical_pages image) → (h : Held) → IsListed (physical_seen (shape_of_image image) (seen_in image)) h → PointerIsThere (page_on image) h
   unfolding page_on found
   page_there ok stamps h l = record {
     bytes = f.0.main;

@@ -7,7 +7,7 @@ use Rattle.std.specs.List.{filter, list_any, prefix_len}
 use Rattle.std.proofs.lemmas.List.{get_or-set_other, length-append, length-set, length-map, length-take-le, length-replicate}
 use Rattle.nl_field.specs.Members.{Has}
 use Rattle.nl_field.specs.Page.{PageBytes}
-use Rattle.nl_meta.specs.Inside.{IsKept, slots, no_page}
+use Rattle.nl_meta.specs.Inside.{IsMetaState, slots, no_page}
 use Rattle.nl_meta.specs.Pages.{IsPages, rises, with_address}
 use Rattle.nl_meta.proofs.Lists.{any-none}
 use Rattle.nl_meta.proofs.Rising.{Room, room, with-member, with-rises}
@@ -175,7 +175,7 @@ set-keeps (b ∷ bs) (suc v) (suc u) e = set-keeps bs v u e
 
 -- ---- what the calls keep
 
-module _ (pages : List PageBytes) (resident : List Bool) (count : ℕ) (dirty recent frozen : List ℕ) (images : List PageBytes) (is : IsKept pages resident count dirty recent frozen images) where
+module _ (pages : List PageBytes) (resident : List Bool) (count : ℕ) (dirty recent frozen : List ℕ) (images : List PageBytes) (is : IsMetaState pages resident count dirty recent frozen images) where
   pub here : (v : ℕ) → IsSome (get_or (slots resident pages) v None) → get_or resident v false ≡ true
   here v h = sym (slots-resident resident pages v is.each) ∙ h
 
@@ -201,7 +201,7 @@ module _ (pages : List PageBytes) (resident : List Bool) (count : ℕ) (dirty re
       enough : length frozen ≤ length images
       enough = let a = is.most_frozen in let b = is.images_room in omega (arith, a, b)
 
-  pub marked : (v : ℕ) → IsSome (get_or (slots resident pages) v None) → Room v dirty → IsKept pages resident count (with_address v dirty) recent frozen images
+  pub marked : (v : ℕ) → IsSome (get_or (slots resident pages) v None) → Room v dirty → IsMetaState pages resident count (with_address v dirty) recent frozen images
   marked v there enough = record {
     each = is.each;
     room = is.room;
@@ -219,7 +219,7 @@ module _ (pages : List PageBytes) (resident : List Bool) (count : ℕ) (dirty re
       by u (inl e) = ap (λ (w : ℕ). get_or resident w false) (sym e) ∙ here v there
       by u (inr m) = is.dirty_there u m
 
-  pub held : (v n : ℕ) (last : List ℕ) → n ≡ length (filter (λ b. b) (set resident v true)) → IsKept pages (set resident v true) n dirty last frozen images
+  pub held : (v n : ℕ) (last : List ℕ) → n ≡ length (filter (λ b. b) (set resident v true)) → IsMetaState pages (set resident v true) n dirty last frozen images
   held v n last e = record {
     each = length-set resident v true ∙ is.each;
     room = is.room;
@@ -233,7 +233,7 @@ module _ (pages : List PageBytes) (resident : List Bool) (count : ℕ) (dirty re
     images_room = is.images_room;
   }
 
-  pub dropped : (v n : ℕ) → list_any (λ a. a == v) dirty ≡ false → n ≡ length (filter (λ b. b) (set resident v false)) → IsKept pages (set resident v false) n dirty recent frozen images
+  pub dropped : (v n : ℕ) → list_any (λ a. a == v) dirty ≡ false → n ≡ length (filter (λ b. b) (set resident v false)) → IsMetaState pages (set resident v false) n dirty recent frozen images
   dropped v n clean e = record {
     each = length-set resident v false ∙ is.each;
     room = is.room;
@@ -247,7 +247,7 @@ module _ (pages : List PageBytes) (resident : List Bool) (count : ℕ) (dirty re
     images_room = is.images_room;
   }
 
-  pub frozen-now : (all : List PageBytes) → length all ≡ length images → IsKept pages resident count [] recent dirty all
+  pub frozen-now : (all : List PageBytes) → length all ≡ length images → IsMetaState pages resident count [] recent dirty all
   unfolding rises
   frozen-now all e = record {
     each = is.each;
@@ -262,7 +262,7 @@ module _ (pages : List PageBytes) (resident : List Bool) (count : ℕ) (dirty re
     images_room = e ∙ is.images_room;
   }
 
-  pub imaged : (v : ℕ) (all : List PageBytes) → rises (frozen ++ v ∷ []) ≡ true → length frozen < 64 → length all ≡ length images → IsKept pages resident count dirty recent (frozen ++ v ∷ []) all
+  pub imaged : (v : ℕ) (all : List PageBytes) → rises (frozen ++ v ∷ []) ≡ true → length frozen < 64 → length all ≡ length images → IsMetaState pages resident count dirty recent (frozen ++ v ∷ []) all
   imaged v all rise few e = record {
     each = is.each;
     room = is.room;
@@ -276,7 +276,7 @@ module _ (pages : List PageBytes) (resident : List Bool) (count : ℕ) (dirty re
     images_room = e ∙ is.images_room;
   }
 
-  pub thawed : IsKept pages resident count dirty recent [] images
+  pub thawed : IsMetaState pages resident count dirty recent [] images
   unfolding rises
   thawed = record {
     each = is.each;
@@ -296,7 +296,7 @@ module _ (pages : List PageBytes) (resident : List Bool) (count : ℕ) (dirty re
   images-same [] f = refl
   images-same (x ∷ xs) f = λ i. unwrap_or (sym (shown-at x (f x (inl refl))) i) [] ∷ images-same xs (λ v m. f v (inr m)) i
 
-pub blank : (pages images : List PageBytes) (n : ℕ) → length pages ≡ n → n < 2 ^ 32 → length images ≡ 64 → IsKept pages (replicate n false) 0 [] [] [] images
+pub blank : (pages images : List PageBytes) (n : ℕ) → length pages ≡ n → n < 2 ^ 32 → length images ≡ 64 → IsMetaState pages (replicate n false) 0 [] [] [] images
 unfolding rises
 blank pages images n e small room = record {
   each = length-replicate n false ∙ sym e;

@@ -6,7 +6,7 @@ use Rattle.std.proofs.lemmas.List.{get_or-set_other}
 use Rattle.std.specs.List.{list_any}
 use Rattle.nl_meta.specs.Pages.{Pages, is_dirty, page_of, touched, with_address}
 use Rattle.nl_meta.specs.PageLaws.{CallsChangePages, IsApart, LoadsPages}
-use Rattle.nl_meta.specs.Steps.{Admits, ChangesPages, Freshens, Keeps, Misses, with_dirty}
+use Rattle.nl_meta.specs.Steps.{Admits, ChangesRunningPages, Freshens, KeepsOtherPages, Misses, with_dirty}
 use Rattle.nl_meta.proofs.RunningProofs.{not-with}
 
 -- a page that is replaced where it was is there
@@ -19,7 +19,7 @@ some-set (o ∷ xs) (suc v) x h = some-set xs v x h
 off : {X : Type 0} (o : Option X) → o ≡ None → is_some o ≡ true → ⊥
 off o e h = both_ways (is_some o) (ap is_some e) h
 
-pub none : (p : Pages) → ChangesPages p p
+pub none : (p : Pages) → ChangesRunningPages p p
 none p = record {
   same_frozen = refl;
   stays = λ v there. there;
@@ -28,7 +28,7 @@ none p = record {
   apart = λ v there. inl there;
 }
 
-pub both : (p q r : Pages) → ChangesPages p q → ChangesPages q r → ChangesPages p r
+pub both : (p q r : Pages) → ChangesRunningPages p q → ChangesRunningPages q r → ChangesRunningPages p r
 both p q r a b = record {
   same_frozen = b.same_frozen ∙ a.same_frozen;
   stays = λ v there. b.stays v (a.stays v there);
@@ -37,7 +37,7 @@ both p q r a b = record {
   apart = λ v there. ⊎_elim (λ before. a.apart v before) (λ far. inr far) (b.apart v there);
 }
 
-pub loaded : (p new : Pages) → LoadsPages p new → ChangesPages p new
+pub loaded : (p new : Pages) → LoadsPages p new → ChangesRunningPages p new
 loaded p new l = record {
   same_frozen = l.frozen;
   stays = λ v there. ap is_some (l.stays v there) ∙ there;
@@ -61,7 +61,7 @@ module _ (p : Pages) (v : ℕ) (new : Pages) (frozen : new.frozen ≡ p.frozen) 
   apart u (inl e) is = subst (λ (w : ℕ). IsSome (page_of p w) ⊎ IsApart w) (sym e) may
   apart u (inr far) is = inl (ap is_some (sym (others u far)) ∙ is)
 
-  pub changes-one : ChangesPages p new
+  pub changes-one : ChangesRunningPages p new
   changes-one = record {
     same_frozen = frozen;
     stays = λ u is. stays u (cases_eq u v) is;
@@ -70,15 +70,15 @@ module _ (p : Pages) (v : ℕ) (new : Pages) (frozen : new.frozen ≡ p.frozen) 
     apart = λ u is. apart u (cases_eq u v) is;
   }
 
-pub changed : (p : Pages) (v : ℕ) (bytes : List ℕ) → IsSome (page_of p v) ⊎ IsApart v → ChangesPages p (with_dirty p v bytes)
+pub changed : (p : Pages) (v : ℕ) (bytes : List ℕ) → IsSome (page_of p v) ⊎ IsApart v → ChangesRunningPages p (with_dirty p v bytes)
 changed p v bytes may = changes-one p v (with_dirty p v bytes) refl refl (λ u far. get_or-set_other p.running v u (Some bytes) None far) (some-set p.running v bytes) may
 
-pub freshened : (p : Pages) (v : ℕ) (new : Pages) → IsSome (page_of p v) ⊎ IsApart v → Freshens v p new → ChangesPages p new
+pub freshened : (p : Pages) (v : ℕ) (new : Pages) → IsSome (page_of p v) ⊎ IsApart v → Freshens v p new → ChangesRunningPages p new
 freshened p v new may is = changes-one p v new is.keeps.frozen is.dirty is.keeps.others (λ before. ap is_some is.page) may
 
 -- ---- one page may become resident
 
-module _ (p : Pages) (v : ℕ) (gone : page_of p v ≡ None) (new : Pages) (dirty : new.dirty ≡ p.dirty) (keeps : Keeps v p new) where
+module _ (p : Pages) (v : ℕ) (gone : page_of p v ≡ None) (new : Pages) (dirty : new.dirty ≡ p.dirty) (keeps : KeepsOtherPages v p new) where
   far-from : (u : ℕ) → IsSome (page_of p u) → u ≢ v
   far-from u there e = off (page_of p u) (ap (page_of p) e ∙ gone) there
 
@@ -90,10 +90,10 @@ module _ (p : Pages) (v : ℕ) (gone : page_of p v ≡ None) (new : Pages) (dirt
     apart = λ u there. ⊎_elim (λ e. at u e there) (λ far. inl (ap is_some (sym (keeps.others u far)) ∙ there)) (cases_eq u v);
   }
 
-pub admitted : (p : Pages) (v : ℕ) (bytes : List ℕ) (new : Pages) → IsApart v → page_of p v ≡ None → Admits v bytes p new → ChangesPages p new
+pub admitted : (p : Pages) (v : ℕ) (bytes : List ℕ) (new : Pages) → IsApart v → page_of p v ≡ None → Admits v bytes p new → ChangesRunningPages p new
 admitted p v bytes new far gone is = loaded p new (loads-one p v gone new is.dirty is.keeps (λ u e there. inr (subst IsApart (sym e) far)))
 
-pub missed : (p : Pages) (v : ℕ) (new : Pages) → page_of p v ≡ None → Misses v p new → ChangesPages p new
+pub missed : (p : Pages) (v : ℕ) (new : Pages) → page_of p v ≡ None → Misses v p new → ChangesRunningPages p new
 missed p v new gone is = loaded p new (loads-one p v gone new is.dirty is.keeps (λ u e there. absurd (off (page_of new u) (ap (page_of new) e ∙ is.page) there)))
 
 pub calls_change_pages : CallsChangePages

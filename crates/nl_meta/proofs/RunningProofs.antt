@@ -8,8 +8,8 @@ use Rattle.nl_field.specs.Bytes.{zeros}
 use Rattle.nl_field.specs.Members.{Has}
 use Rattle.nl_meta.specs.Committed.{VirtualMap}
 use Rattle.nl_meta.specs.Pages.{Pages, above, below, dirty_pages, is_dirty, is_frozen, none_frozen, page_of, touched, with_address}
-use Rattle.nl_meta.specs.Running.{AdmitsPage, MissesPage, CleanIsStored, DiffersAt, RunningMap, RunsAlike, RunsWith, or_stored, running_over}
-use Rattle.nl_meta.specs.Steps.{Admits, Keeps, Misses, with_dirty, with_restored}
+use Rattle.nl_meta.specs.Running.{AdmitsPage, MissesPage, CleanIsStored, DiffersAt, RunningMap, SameRunning, SetsRunningPage, or_stored, running_over}
+use Rattle.nl_meta.specs.Steps.{Admits, KeepsOtherPages, Misses, with_dirty, with_restored}
 use Rattle.nl_meta.proofs.Lists.{any-none, none-any, none_some, filter-member, append-member-left, append-member-right}
 
 -- ---- a list with one more
@@ -44,12 +44,12 @@ not-last v xs u e = (
 
 module _ (device : VirtualMap) (p : Pages) (clean : CleanIsStored device p) where
   -- another address has what it had
-  stays : (v : ℕ) (new : Pages) → Keeps v p new → (u : ℕ) → u ≢ v → running_over device new u ≡ running_over device p u
+  stays : (v : ℕ) (new : Pages) → KeepsOtherPages v p new → (u : ℕ) → u ≢ v → running_over device new u ≡ running_over device p u
   unfolding running_over
   stays v new keeps u far = ap (λ o. or_stored o (device u)) (keeps.others u far)
 
   -- what another address has is the device's, where it is clean
-  stored : (v : ℕ) (new : Pages) → Keeps v p new → (u : ℕ) → u ≢ v → (bytes : List ℕ) → page_of new u ≡ Some bytes → is_dirty p u ≡ false → is_frozen p u ≡ false → device u ≡ Some bytes
+  stored : (v : ℕ) (new : Pages) → KeepsOtherPages v p new → (u : ℕ) → u ≢ v → (bytes : List ℕ) → page_of new u ≡ Some bytes → is_dirty p u ≡ false → is_frozen p u ≡ false → device u ≡ Some bytes
   stored v new keeps u far bytes is d f = clean.each u bytes (sym (keeps.others u far) ∙ is) d f
 
   here : (v : ℕ) (bytes : List ℕ) (new : Pages) → page_of new v ≡ Some bytes → running_over device new v ≡ Some bytes
@@ -64,7 +64,7 @@ module _ (device : VirtualMap) (p : Pages) (clean : CleanIsStored device p) wher
   unfolding running_over
   alike new e u = ap (λ (running : List (Option (List ℕ))). or_stored (get_or running u None) (device u)) e
 
-  admitted : (v : ℕ) (bytes : List ℕ) (new : Pages) → device v ≡ Some bytes → page_of p v ≡ None → Admits v bytes p new → RunsAlike device p new
+  admitted : (v : ℕ) (bytes : List ℕ) (new : Pages) → device v ≡ Some bytes → page_of p v ≡ None → Admits v bytes p new → SameRunning device p new
   admitted v bytes new has gone is = record {
     same = λ u. same u (cases_eq u v);
     clean = record { each = λ u b at d f. each u b at d f (cases_eq u v) };
@@ -79,7 +79,7 @@ module _ (device : VirtualMap) (p : Pages) (clean : CleanIsStored device p) wher
       each u b at d f (inr far) =
           stored v new is.keeps u far b at (ap (λ (xs : List ℕ). list_any (λ a. a == u) xs) (sym is.dirty) ∙ d) (ap (λ fs. list_any (λ a. a == u) fs.addresses) (sym is.keeps.frozen) ∙ f)
 
-  missed : (v : ℕ) (new : Pages) → page_of p v ≡ None → Misses v p new → RunsAlike device p new
+  missed : (v : ℕ) (new : Pages) → page_of p v ≡ None → Misses v p new → SameRunning device p new
   unfolding running_over
   missed v new gone is = record {
     same = λ u. same u (cases_eq u v);
@@ -95,7 +95,7 @@ module _ (device : VirtualMap) (p : Pages) (clean : CleanIsStored device p) wher
       each u b at d f (inr far) =
           stored v new is.keeps u far b at (ap (λ (xs : List ℕ). list_any (λ a. a == u) xs) (sym is.dirty) ∙ d) (ap (λ fs. list_any (λ a. a == u) fs.addresses) (sym is.keeps.frozen) ∙ f)
 
-  with-one : (v : ℕ) (bytes : List ℕ) (new : Pages) → page_of new v ≡ Some bytes → new.dirty ≡ with_address v p.dirty → Keeps v p new → RunsWith v bytes device p new
+  with-one : (v : ℕ) (bytes : List ℕ) (new : Pages) → page_of new v ≡ Some bytes → new.dirty ≡ with_address v p.dirty → KeepsOtherPages v p new → SetsRunningPage v bytes device p new
   with-one v bytes new is dirty keeps = record {
     at = here v bytes new is;
     others = stays v new keeps;
@@ -105,7 +105,7 @@ module _ (device : VirtualMap) (p : Pages) (clean : CleanIsStored device p) wher
       each : (u : ℕ) (b : List ℕ) → page_of new u ≡ Some b → (u ≢ v) × (list_any (λ a. a == u) p.dirty ≡ false) → is_frozen new u ≡ false → device u ≡ Some b
       each u b at d f = stored v new keeps u d.0 b at d.1 (ap (λ fs. list_any (λ a. a == u) fs.addresses) (sym keeps.frozen) ∙ f)
 
-  changed : (v : ℕ) (bytes : List ℕ) → v < length p.running → RunsWith v bytes device p (with_dirty p v bytes)
+  changed : (v : ℕ) (bytes : List ℕ) → v < length p.running → SetsRunningPage v bytes device p (with_dirty p v bytes)
   unfolding running_over
   changed v bytes below = record {
     at = here v bytes (with_dirty p v bytes) (get_or-set_same p.running v (Some bytes) None below);
@@ -116,7 +116,7 @@ module _ (device : VirtualMap) (p : Pages) (clean : CleanIsStored device p) wher
       others : (u : ℕ) → u ≢ v → running_over device (with_dirty p v bytes) u ≡ running_over device p u
       others u far = ap (λ o. or_stored o (device u)) (get_or-set_other p.running v u (Some bytes) None far)
 
-  restored : (v : ℕ) (bytes : List ℕ) → v < length p.running → RunsWith v bytes device p (with_restored p v bytes)
+  restored : (v : ℕ) (bytes : List ℕ) → v < length p.running → SetsRunningPage v bytes device p (with_restored p v bytes)
   unfolding running_over
   restored v bytes below = record {
     at = here v bytes (with_restored p v bytes) (get_or-set_same p.running v (Some bytes) None below);

@@ -174,7 +174,7 @@ pub record PageOfStamp : Type 0 where
   pub bytes : List ℕ
 
 -- The page of the pointer's stamp has its tag, and is zero from the file's size on.
-pub record IsThere (page_of_stamp : ℕ → Option PageOfStamp) (h : Held) : Type 0 where
+pub record PointerIsThere (page_of_stamp : ℕ → Option PageOfStamp) (h : Held) : Type 0 where
   pub bytes : List ℕ
   pub holds : page_of_stamp h.pointer.stamp ≡ Some (record { tag = h.tag; bytes = bytes })
   pub whole : length bytes ≡ 4096
@@ -185,7 +185,7 @@ pub record IsThere (page_of_stamp : ℕ → Option PageOfStamp) (h : Held) : Typ
 pub record RightFor (shape : Shape) (pages : VirtualMap) (page_of_stamp : ℕ → Option PageOfStamp) : Type 0 where
   pub legal : IsTrue (is_legal shape.blocks shape.pages)
   pub numbers : shape ≡ shape_for shape.blocks shape.pages
-  pub tree : TreePages shape pages (IsThere page_of_stamp)
+  pub tree : TreePages shape pages (PointerIsThere page_of_stamp)
 
 -- The committed pages, beside what a scan lists, are metadata of a tree, and pages of one stamp agree.
 pub record MetadataListed (shape : Shape) (pages : VirtualMap) (seen : List Seen) : Type 0 where
@@ -222,8 +222,8 @@ MetadataRight image = MetadataListed (shape_of_image image) (committed_of image)
 abbrev pub OwnNames : Image → Type 0
 OwnNames image = OwnNamesListed (shape_of_image image) (seen_in image) (committed_pointers image)
 
-abbrev pub HasRoom : Image → Type 0
-HasRoom image = RoomListed (shape_of_image image) (seen_in image) (committed_pointers image)
+abbrev pub ImageHasRoom : Image → Type 0
+ImageHasRoom image = RoomListed (shape_of_image image) (seen_in image) (committed_pointers image)
 
 abbrev pub Consistent : Image → Type 0
 Consistent image = ConsistentOver (shape_of_image image) (committed_of image) (seen_in image)

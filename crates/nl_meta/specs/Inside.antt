@@ -10,7 +10,7 @@ slots [] pages = []
 slots (b ∷ bs) [] = []
 slots (b ∷ bs) (page ∷ pages) = (if b then Some page.main else None) ∷ slots bs pages
 
-pub record IsKept (pages : List PageBytes) (resident : List Bool) (count : ℕ) (dirty recent frozen : List ℕ)
+pub record IsMetaState (pages : List PageBytes) (resident : List Bool) (count : ℕ) (dirty recent frozen : List ℕ)
     (images : List PageBytes) : Type 0 where
   pub each : length resident ≡ length pages
   pub room : length pages < 2 ^ 32

@@ -19,12 +19,12 @@ pub record CleanIsStored (device : VirtualMap) (p : Pages) : Type 0 where
   pub each : (u : ℕ) (bytes : List ℕ) → page_of p u ≡ Some bytes → is_dirty p u ≡ false → is_frozen p u ≡ false → device u ≡ Some bytes
 
 -- No address changes.
-pub record RunsAlike (device : VirtualMap) (old new : Pages) : Type 0 where
+pub record SameRunning (device : VirtualMap) (old new : Pages) : Type 0 where
   pub same : (u : ℕ) → running_over device new u ≡ running_over device old u
   pub clean : CleanIsStored device new
 
 -- One address has these bytes, and the others have what they had.
-pub record RunsWith (v : ℕ) (bytes : List ℕ) (device : VirtualMap) (old new : Pages) : Type 0 where
+pub record SetsRunningPage (v : ℕ) (bytes : List ℕ) (device : VirtualMap) (old new : Pages) : Type 0 where
   pub at : running_over device new v ≡ Some bytes
   pub others : (u : ℕ) → u ≢ v → running_over device new u ≡ running_over device old u
   pub clean : CleanIsStored device new
@@ -37,17 +37,17 @@ DiffersAt v old new = (u : ℕ) → u ≢ v → new u ≡ old u
 pub record RunningLaws (device : VirtualMap) (p : Pages) (clean : CleanIsStored device p) : Type 0 where
   -- a page is admitted that is the device's
   pub admitted : (v : ℕ) (bytes : List ℕ) (new : Pages) → device v ≡ Some bytes → page_of p v ≡ None → Admits v bytes p new
-      → RunsAlike device p new
+      → SameRunning device p new
   -- a page could not be read
-  pub missed : (v : ℕ) (new : Pages) → page_of p v ≡ None → Misses v p new → RunsAlike device p new
-  pub freshened : (v : ℕ) (new : Pages) → Freshens v p new → RunsWith v (zeros 4096) device p new
-  pub changed : (v : ℕ) (bytes : List ℕ) → v < length p.running → RunsWith v bytes device p (with_dirty p v bytes)
-  pub restored : (v : ℕ) (bytes : List ℕ) → v < length p.running → RunsWith v bytes device p (with_restored p v bytes)
-  pub touched : (v : ℕ) → RunsAlike device p (record p { recent = touched v p.recent })
-  pub frozen : p.frozen.addresses ≡ [] → RunsAlike device p (record p { dirty = []; frozen = dirty_pages p })
+  pub missed : (v : ℕ) (new : Pages) → page_of p v ≡ None → Misses v p new → SameRunning device p new
+  pub freshened : (v : ℕ) (new : Pages) → Freshens v p new → SetsRunningPage v (zeros 4096) device p new
+  pub changed : (v : ℕ) (bytes : List ℕ) → v < length p.running → SetsRunningPage v bytes device p (with_dirty p v bytes)
+  pub restored : (v : ℕ) (bytes : List ℕ) → v < length p.running → SetsRunningPage v bytes device p (with_restored p v bytes)
+  pub touched : (v : ℕ) → SameRunning device p (record p { recent = touched v p.recent })
+  pub frozen : p.frozen.addresses ≡ [] → SameRunning device p (record p { dirty = []; frozen = dirty_pages p })
   -- the frozen pages are home, but for those that are dirty again
   pub thawed : ((u : ℕ) (bytes : List ℕ) → page_of p u ≡ Some bytes → is_frozen p u ≡ true → is_dirty p u ≡ false → device u ≡ Some bytes)
-      → RunsAlike device p (record p { frozen = none_frozen })
+      → SameRunning device p (record p { frozen = none_frozen })
   -- a page is written to the device at the address of a dirty or frozen one
   pub written : (v : ℕ) (after : VirtualMap) → DiffersAt v device after → IsSome (page_of p v)
       → (is_dirty p v ≡ true) ⊎ (is_frozen p v ≡ true)

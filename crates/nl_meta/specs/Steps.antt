@@ -25,7 +25,7 @@ abbrev pub without_page : Pages → ℕ → Pages
 without_page p v = record p { running = slice_set p.running v None }
 
 -- What a call that makes a page resident does to the other addresses: their pages stay.
-pub record Keeps (v : ℕ) (old new : Pages) : Type 0 where
+pub record KeepsOtherPages (v : ℕ) (old new : Pages) : Type 0 where
   pub count : length new.running ≡ length old.running
   pub frozen : new.frozen ≡ old.frozen
   pub recent : new.recent ≡ touched v old.recent
@@ -35,23 +35,23 @@ pub record Keeps (v : ℕ) (old new : Pages) : Type 0 where
 pub record Admits (v : ℕ) (bytes : List ℕ) (old new : Pages) : Type 0 where
   pub page : page_of new v ≡ Some bytes
   pub dirty : new.dirty ≡ old.dirty
-  pub keeps : Keeps v old new
+  pub keeps : KeepsOtherPages v old new
 
 -- The address has no page, as before.
 pub record Misses (v : ℕ) (old new : Pages) : Type 0 where
   pub page : page_of new v ≡ None
   pub dirty : new.dirty ≡ old.dirty
-  pub keeps : Keeps v old new
+  pub keeps : KeepsOtherPages v old new
 
 -- The address has a page of zeros, which is dirty.
 pub record Freshens (v : ℕ) (old new : Pages) : Type 0 where
   pub page : page_of new v ≡ Some (zeros 4096)
   pub dirty : new.dirty ≡ with_address v old.dirty
-  pub keeps : Keeps v old new
+  pub keeps : KeepsOtherPages v old new
 
 -- The running pages change, and no frozen one. Each resident page stays so. One that is not dirty afterwards was not before, and is as it
 -- was. A page that became resident is none of the journal's.
-pub record ChangesPages (old new : Pages) : Type 0 where
+pub record ChangesRunningPages (old new : Pages) : Type 0 where
   pub same_frozen : new.frozen ≡ old.frozen
   pub stays : (v : ℕ) → IsSome (page_of old v) → IsSome (page_of new v)
   pub was_clean : (v : ℕ) → is_dirty new v ≡ false → is_dirty old v ≡ false

@@ -236,8 +236,8 @@ phase_fault image what = fault_in (shape_of_image image) (committed_of image) (s
 unfoldable pub walk : Image → Option Place
 walk image = walk_over (shape_of_image image) (committed_of image) (seen_in image)
 
-unfoldable pub is_blank : Image → Bool
-is_blank image = length (readable_pages image) == 0
+unfoldable pub is_blank_image : Image → Bool
+is_blank_image image = length (readable_pages image) == 0
 
 -- what an opening answers
 pub data OpeningAnswer : Type 0 where
@@ -251,7 +251,7 @@ answer_of_walk (Some place) = answers_damaged place
 
 -- An image without a readable page is blank, before any walk.
 unfoldable pub opening_answer : Image → OpeningAnswer
-opening_answer image = if is_blank image then answers_blank else answer_of_walk (walk image)
+opening_answer image = if is_blank_image image then answers_blank else answer_of_walk (walk image)
 
 -- Where an opening finds the page of a pointer: under its own name where that page holds the stamp and is outside the
 -- spare block, and else in the least readable page of that stamp outside it.

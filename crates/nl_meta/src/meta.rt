@@ -33,13 +33,13 @@ pub struct Meta {
 impl Model for Meta {
     ghost use Rattle.std.specs.Prelude.{length, map, take};
     ghost use Rattle.nl_meta.specs.Pages.{Pages};
-    ghost use Rattle.nl_meta.specs.Inside.{IsKept, slots};
+    ghost use Rattle.nl_meta.specs.Inside.{IsMetaState, slots};
 
     ghost Value = { Pages };
 
     ghost view = { λ m. record { running = slots m.resident.items m.pages.items; dirty = m.dirty; recent = m.recent; frozen = record { addresses = m.frozen; images = map (λ page. page.main) (take (length m.frozen) m.images.items) } } };
 
-    ghost invariant = { λ m. IsKept m.pages.items m.resident.items m.count m.dirty m.recent m.frozen m.images.items };
+    ghost invariant = { λ m. IsMetaState m.pages.items m.resident.items m.count m.dirty m.recent m.frozen m.images.items };
 }
 
 impl Meta {

@@ -24,7 +24,7 @@ use Rattle.nl_dir.specs.DirectoryLaws.{OwnPages}
 use Rattle.nl_dir.specs.ListLaws.{Lists, ListsRight, ReachedByLists}
 use Rattle.nl_dir.proofs.LawProofs.{only_own_pages}
 use Rattle.nl_dir.proofs.ListProofs.{entries_by_lists}
-use Rattle.nl_meta_running.specs.FileLaws.{ChangesFile, IsRight, OneFileChanges}
+use Rattle.nl_meta_running.specs.FileLaws.{ChangesFileRecord, IsRight, OneFileChanges}
 use Rattle.nl_meta_running.proofs.GraphStays.{all-pointers}
 use Rattle.nl_meta_running.proofs.SameNeeded.{slot-filled}
 
@@ -37,7 +37,7 @@ file-unused e = cc
 dir-file : Dir ≡ File → ⊥
 dir-file e = cc
 
-module _ (shape : Shape) (old new : VirtualMap) (n : ℕ) (was is : InodeRec) (bounds : ShapeBounds shape) (right : IsRight shape old) (c : ChangesFile shape old new n was is) where
+module _ (shape : Shape) (old new : VirtualMap) (n : ℕ) (was is : InodeRec) (bounds : ShapeBounds shape) (right : IsRight shape old) (c : ChangesFileRecord shape old new n was is) where
   places : (m : ℕ) → m < shape.nodes → m < 16 * shape.inode_pages
   places m h = let f = bounds.places in omega (arith, h, f)
 

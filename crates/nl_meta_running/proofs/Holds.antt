@@ -13,12 +13,12 @@ use Rattle.nl_iface.specs.declared.counts.Counts.{Ghosts}
 use Rattle.nl_inode.specs.Fetching.{Fetches, FetchesNone}
 use Rattle.nl_meta.specs.PageLaws.{IsApart}
 use Rattle.nl_meta.specs.Pages.{Pages, page_of, touched}
-use Rattle.nl_meta.specs.Running.{CleanIsStored, RunsAlike, or_stored, running_over}
+use Rattle.nl_meta.specs.Running.{CleanIsStored, SameRunning, or_stored, running_over}
 use Rattle.nl_meta.proofs.Lists.{none_some}
 use Rattle.nl_meta.proofs.RunningProofs.{running_map}
-use Rattle.nl_meta.specs.Steps.{Keeps}
+use Rattle.nl_meta.specs.Steps.{KeepsOtherPages}
 use Rattle.nl_meta_running.specs.Holding.{HoldsPage}
-use Rattle.nl_meta_running.specs.Running.{IsNeeded, Runs, RunsOn, running_on, stored_on}
+use Rattle.nl_meta_running.specs.Running.{IsNeeded, RunningIsRight, PreservesRunning, running_on, stored_on}
 
 pub bounds-of : (shape : Shape) → IsVolumeShape shape → ShapeBounds shape
 bounds-of shape is = subst ShapeBounds (sym is.numbers) (bounds shape.blocks shape.pages is.legal)
@@ -29,11 +29,11 @@ by-cases true false bytes x = absurd (none_some bytes x)
 by-cases false b bytes x = absurd (none_some bytes x)
 
 -- a page that is resident is another one than one that was not
-stays-but : (p q : Pages) (v : ℕ) → page_of p v ≡ None → Keeps v p q → (u : ℕ) → IsSome (page_of p u) → page_of q u ≡ page_of p u
+stays-but : (p q : Pages) (v : ℕ) → page_of p v ≡ None → KeepsOtherPages v p q → (u : ℕ) → IsSome (page_of p u) → page_of q u ≡ page_of p u
 stays-but p q v gone keeps u there = keeps.others u (λ e. both_ways _ refl (ap is_some (sym gone) ∙ ap (λ (w : ℕ). is_some (page_of p w)) (sym e) ∙ there))
 
 -- a page that became resident is that one
-apart-but : (p q : Pages) (v : ℕ) → Keeps v p q → 67 ≤ v → (u : ℕ) → IsSome (page_of q u) → IsSome (page_of p u) ⊎ IsApart u
+apart-but : (p q : Pages) (v : ℕ) → KeepsOtherPages v p q → 67 ≤ v → (u : ℕ) → IsSome (page_of q u) → IsSome (page_of p u) ⊎ IsApart u
 apart-but p q v keeps far u there = by (cases_eq u v)
   where
     by : (u ≡ v) ⊎ (u ≢ v) → IsSome (page_of p u) ⊎ IsApart u
@@ -65,7 +65,7 @@ reads-none g s = record {
   names = refl;
 }
 
-module _ {D : Type 0} (g : Ghosts D) (s : D) (p : Pages) (runs : Runs g s p) where
+module _ {D : Type 0} (g : Ghosts D) (s : D) (p : Pages) (runs : RunningIsRight g s p) where
   -- the device has the same bytes after a read, where it tells
   stored-same : (t : D) → OnlyReads g s t → g.tells → (v : ℕ) → stored_on g t v ≡ stored_on g s v
   unfolding map_bytes
@@ -91,7 +91,7 @@ module _ {D : Type 0} (g : Ghosts D) (s : D) (p : Pages) (runs : Runs g s p) whe
   there-touched v t reads u need None gone = told-touched v t reads (runs.absent u need gone) u
   there-touched v t reads u need (Some bytes) there = ap (λ o. or_stored o (stored_on g t u)) there ∙ sym (ap (λ o. or_stored o (stored_on g s u)) there)
 
-  pub touched-runs : (v : ℕ) (t : D) → OnlyReads g s t → RunsOn g s p t (record p { recent = touched v p.recent })
+  pub touched-runs : (v : ℕ) (t : D) → OnlyReads g s t → PreservesRunning g s p t (record p { recent = touched v p.recent })
   touched-runs v t reads = record {
     reads = reads;
     count = refl;
@@ -106,7 +106,7 @@ module _ {D : Type 0} (g : Ghosts D) (s : D) (p : Pages) (runs : Runs g s p) whe
     clean = λ told. clean-moved t (record p { recent = touched v p.recent }) reads told (record { each = (runs.clean told).each });
   }
 
-  pub none-runs : RunsOn g s p s p
+  pub none-runs : PreservesRunning g s p s p
   none-runs = record {
     reads = reads-none g s;
     count = refl;
@@ -123,7 +123,7 @@ module _ {D : Type 0} (g : Ghosts D) (s : D) (p : Pages) (runs : Runs g s p) whe
 
   told-runs : (t : D) (q : Pages) → OnlyReads g s t → g.tells → length q.running ≡ length p.running → q.dirty ≡ p.dirty → q.frozen ≡ p.frozen
       → ((u : ℕ) → IsSome (page_of p u) → page_of q u ≡ page_of p u) → ((u : ℕ) → IsSome (page_of q u) → IsSome (page_of p u) ⊎ IsNeeded (g.shape s) (running_on g s p) u)
-      → ((u : ℕ) → IsSome (page_of q u) → IsSome (page_of p u) ⊎ IsApart u) → RunsAlike (stored_on g s) p q → RunsOn g s p t q
+      → ((u : ℕ) → IsSome (page_of q u) → IsSome (page_of p u) ⊎ IsApart u) → SameRunning (stored_on g s) p q → PreservesRunning g s p t q
   told-runs t q reads told count dirty frozen stays only apart alike = record {
     reads = reads;
     count = count;
@@ -140,7 +140,7 @@ module _ {D : Type 0} (g : Ghosts D) (s : D) (p : Pages) (runs : Runs g s p) whe
 
   module _ (v : ℕ) (need : IsNeeded (g.shape s) (running_on g s p) v) where
     -- no other page becomes resident
-    only-but : (q : Pages) → Keeps v p q → (u : ℕ) → IsSome (page_of q u) → IsSome (page_of p u) ⊎ IsNeeded (g.shape s) (running_on g s p) u
+    only-but : (q : Pages) → KeepsOtherPages v p q → (u : ℕ) → IsSome (page_of q u) → IsSome (page_of p u) ⊎ IsNeeded (g.shape s) (running_on g s p) u
     only-but q keeps u there = ⊎_elim (λ same. inr (subst (λ (w : ℕ). IsNeeded (g.shape s) (running_on g s p) w) (sym same) need)) (λ far. inl (ap is_some (sym (keeps.others u far)) ∙ there)) (cases_eq u v)
 
     -- it is none of the journal's
@@ -151,13 +151,13 @@ module _ {D : Type 0} (g : Ghosts D) (s : D) (p : Pages) (runs : Runs g s p) whe
         by (inr u) = let low = (runs.addresses.good u.0 u.1 v u.2).from_pool in omega (arith, low)
         by (inl e) = leb-true 67 v (and_parts (nat_le 67 v) _ e).0
 
-    pub missed-runs : (t : D) (q : Pages) → OnlyReads g s t → FetchesNone v p q → RunsOn g s p t q
+    pub missed-runs : (t : D) (q : Pages) → OnlyReads g s t → FetchesNone v p q → PreservesRunning g s p t q
     missed-runs t q reads none =
         let told = runs.absent v need none.0 in
         told-runs t q reads told none.1.keeps.count none.1.dirty none.1.keeps.frozen (stays-but p q v none.0 none.1.keeps) (only-but q none.1.keeps) (apart-but p q v none.1.keeps need-apart) ((running_map (stored_on g s) p (runs.clean told)).missed v q none.0 none.1)
 
-    pub fetched-runs : (t : D) (q : Pages) → OnlyReads g s t → Fetches g.tells (stored_on g s v) v p q → RunsOn g s p t q
-    fetched-runs t q reads (inl there) = subst (λ (n : Pages). RunsOn g s p t n) (sym there.1) (touched-runs v t reads)
+    pub fetched-runs : (t : D) (q : Pages) → OnlyReads g s t → Fetches g.tells (stored_on g s v) v p q → PreservesRunning g s p t q
+    fetched-runs t q reads (inl there) = subst (λ (n : Pages). PreservesRunning g s p t n) (sym there.1) (touched-runs v t reads)
     fetched-runs t q reads (inr (gone, bytes, is, admits)) =
         let told = runs.absent v need gone in
         told-runs t q reads told admits.keeps.count admits.dirty admits.keeps.frozen (stays-but p q v gone admits.keeps) (only-but q admits.keeps) (apart-but p q v admits.keeps need-apart) ((running_map (stored_on g s) p (runs.clean told)).admitted v bytes q (is told) gone admits)

@@ -13,7 +13,7 @@ use Rattle.nl_meta.specs.PageLaws.{LoadsPages}
 use Rattle.nl_meta.specs.Pages.{Pages, page_of}
 use Rattle.nl_meta.specs.Running.{or_stored, running_over}
 use Rattle.nl_inode.specs.Nodes.{page_of_node}
-use Rattle.nl_meta_running.specs.Running.{IsNeeded, IsNodeOf, Runs, RunsOn, running_on, stored_on}
+use Rattle.nl_meta_running.specs.Running.{IsNeeded, IsNodeOf, RunningIsRight, PreservesRunning, running_on, stored_on}
 use Rattle.nl_meta_running.proofs.SameNeeded.{addresses-right, entries-right, inode-address, needed-from, needed-to, node-from, node-to, nodes-right}
 
 or-there : (o stored : Option (List ℕ)) → IsSome o → or_stored o stored ≡ o
@@ -25,10 +25,10 @@ unfolding running_over
 resident-is g t q v there = or-there (page_of q v) (stored_on g t v) there
 
 -- pages were loaded, and nothing else
-pub loads-on : {D : Type 0} (g : Ghosts D) (s : D) (p : Pages) (t : D) (q : Pages) → RunsOn g s p t q → LoadsPages p q
+pub loads-on : {D : Type 0} (g : Ghosts D) (s : D) (p : Pages) (t : D) (q : Pages) → PreservesRunning g s p t q → LoadsPages p q
 loads-on g s p t q on = record { dirty = on.dirty; frozen = on.frozen; stays = on.stays; apart = on.apart }
 
-module _ {D : Type 0} (g : Ghosts D) (s : D) (p : Pages) (t : D) (q : Pages) (bounds : ShapeBounds (g.shape s)) (on : RunsOn g s p t q) where
+module _ {D : Type 0} (g : Ghosts D) (s : D) (p : Pages) (t : D) (q : Pages) (bounds : ShapeBounds (g.shape s)) (on : PreservesRunning g s p t q) where
   shapes : g.shape s ≡ g.shape t
   shapes = sym on.reads.medium.virtual.same_shape
 
@@ -41,7 +41,7 @@ module _ {D : Type 0} (g : Ghosts D) (s : D) (p : Pages) (t : D) (q : Pages) (bo
   pub need-on : (v : ℕ) → IsNeeded (g.shape s) (running_on g s p) v → IsNeeded (g.shape t) (running_on g t q) v
   need-on v h = subst (λ (n : Shape). IsNeeded n (running_on g t q) v) shapes (need-to v h)
 
-  pub runs-then : Runs g s p → Runs g t q
+  pub runs-then : RunningIsRight g s p → RunningIsRight g t q
   runs-then runs = record {
     count = on.count ∙ runs.count ∙ ap (λ (n : Shape). n.vaddrs) shapes;
     nodes = subst (λ (n : Shape). NodesRight n (running_on g t q)) shapes (nodes-right (g.shape s) bounds (running_on g s p) (running_on g t q) on.needed runs.nodes);
@@ -52,7 +52,7 @@ module _ {D : Type 0} (g : Ghosts D) (s : D) (p : Pages) (t : D) (q : Pages) (bo
     clean = on.clean;
   }
 
-  pub kept-then : (u : D) (r : Pages) → RunsOn g t q u r → RunsOn g s p u r
+  pub kept-then : (u : D) (r : Pages) → PreservesRunning g t q u r → PreservesRunning g s p u r
   kept-then u r next = record {
     reads = reads_then g s t u on.reads next.reads;
     count = next.count ∙ on.count;

@@ -16,7 +16,7 @@ use Rattle.nl_meta.specs.Committed.{VirtualMap}
 use Rattle.nl_meta.specs.Consistent.{AddressAt, AddressesRight, EntriesRight, GoodAddress, IsNode, NodesRight}
 use Rattle.nl_meta.specs.Nodes.{address_of_place, bytes_of_node, entries_of_inode, entry_named, inode_at, slot_at}
 use Rattle.nl_meta.proofs.AddressProofs.{filled_of, inode_spelled}
-use Rattle.nl_inode.specs.FreeLaws.{Uses}
+use Rattle.nl_inode.specs.FreeLaws.{UsesAddress}
 use Rattle.nl_dir.specs.DirectoryLaws.{OwnPages}
 use Rattle.nl_dir.specs.ListLaws.{Lists, ListsRight, ReachedByLists}
 use Rattle.nl_dir.proofs.LawProofs.{only_own_pages}
@@ -36,12 +36,12 @@ slot-filled (suc n) (x ∷ xs) zero e h = (refl, eqb-false x 0 (not-true _ (and_
 slot-filled (suc n) (x ∷ xs) (suc k) e h = slot-filled n xs k (and_parts (not (x == 0)) _ e).1 (omega (arith, h))
 
 module _ (shape : Shape) (pages : VirtualMap) (n : ℕ) (rec : InodeRec) (is : IsNode shape pages n rec) (dir : rec.kind ≡ Dir) where
-  pub row-used : (k : ℕ) → k < div_ceil rec.size 64 → Uses shape pages (get_or rec.addresses k 0)
+  pub row-used : (k : ℕ) → k < div_ceil rec.size 64 → UsesAddress shape pages (get_or rec.addresses k 0)
   row-used k h =
       let s = slot-filled (div_ceil rec.size 64) rec.addresses k (filled_of rec (inode_spelled shape pages n rec is) dir) h in
       (n, k, record { rec = rec; is_node = is; in_slot = s.0; not_zero = s.1 })
 
-  pub place-used : (i : ℕ) → i < rec.size → Uses shape pages (address_of_place rec i)
+  pub place-used : (i : ℕ) → i < rec.size → UsesAddress shape pages (address_of_place rec i)
   place-used i h = row-used (i / 64) (omega (arith, h))
 
 -- the page of a node

@@ -15,7 +15,7 @@ pub record IsRight (shape : Shape) (pages : VirtualMap) : Type 0 where
   pub entries : EntriesRight shape pages
 
 -- Node n has another record, which is still a file's of its generation.
-pub record ChangesFile (shape : Shape) (old new : VirtualMap) (n : ℕ) (was is : InodeRec) : Type 0 where
+pub record ChangesFileRecord (shape : Shape) (old new : VirtualMap) (n : ℕ) (was is : InodeRec) : Type 0 where
   pub node_before : IsNode shape old n was
   pub file_before : was.kind ≡ File
   pub node_after : inode_at new n ≡ Some is
@@ -39,4 +39,4 @@ pub record StaysRight (shape : Shape) (old new : VirtualMap) (n : ℕ) : Type 0 
 abbrev pub OneFileChanges : Type 0
 OneFileChanges =
     (shape : Shape) (old new : VirtualMap) (n : ℕ) (was is : InodeRec) → ShapeBounds shape → IsRight shape old
-    → ChangesFile shape old new n was is → StaysRight shape old new n
+    → ChangesFileRecord shape old new n was is → StaysRight shape old new n

@@ -6,7 +6,7 @@ use Rattle.nl_field.specs.declared.inode.Kind.TheVariants.{Dir}
 use Rattle.nl_field.specs.declared.shape.Shape.{Shape}
 use Rattle.nl_iface.specs.Calls.{OnlyReads}
 use Rattle.nl_iface.specs.declared.counts.Counts.{Ghosts}
-use Rattle.nl_inode.specs.FreeLaws.{Uses}
+use Rattle.nl_inode.specs.FreeLaws.{UsesAddress}
 use Rattle.nl_meta.specs.Committed.{VirtualMap}
 use Rattle.nl_meta.specs.Consistent.{AddressesRight, EntriesRight, IsNode, NodesRight}
 use Rattle.nl_meta.specs.PageLaws.{IsApart}
@@ -23,11 +23,11 @@ running_on g s p = running_over (stored_on g s) p
 
 -- The address has nodes, or a used node has it.
 abbrev pub IsNeeded : Shape → VirtualMap → ℕ → Type 0
-IsNeeded shape pages v = (is_inode_address shape v ≡ true) ⊎ Uses shape pages v
+IsNeeded shape pages v = (is_inode_address shape v ≡ true) ⊎ UsesAddress shape pages v
 
 -- Nodes, addresses and entries of the running map are right, and the page of each of their addresses can be had: it is resident, or a
 -- device that tells what it stores has it.
-pub record Runs {D : Type 0} (g : Ghosts D) (s : D) (p : Pages) : Type 0 where
+pub record RunningIsRight {D : Type 0} (g : Ghosts D) (s : D) (p : Pages) : Type 0 where
   pub count : length p.running ≡ (g.shape s).vaddrs
   pub nodes : NodesRight (g.shape s) (running_on g s p)
   pub addresses : AddressesRight (g.shape s) (running_on g s p)
@@ -37,7 +37,7 @@ pub record Runs {D : Type 0} (g : Ghosts D) (s : D) (p : Pages) : Type 0 where
 
 -- The device was only read, and no page changed: each of those addresses has what it had, and so has every other one where the device
 -- tells. Each resident page stays, and pages of those addresses may have become resident, none of them the journal's.
-pub record RunsOn {D : Type 0} (g : Ghosts D) (s : D) (p : Pages) (t : D) (q : Pages) : Type 0 where
+pub record PreservesRunning {D : Type 0} (g : Ghosts D) (s : D) (p : Pages) (t : D) (q : Pages) : Type 0 where
   pub reads : OnlyReads g s t
   pub count : length q.running ≡ length p.running
   pub dirty : q.dirty ≡ p.dirty
@@ -54,8 +54,8 @@ pub record RunsOn {D : Type 0} (g : Ghosts D) (s : D) (p : Pages) (t : D) (q : P
 abbrev pub IsNodeOf : {D : Type 0} → Ghosts D → D → Pages → ℕ → InodeRec → Type 0
 IsNodeOf g s p n rec = IsNode (g.shape s) (running_on g s p) n rec
 
-abbrev pub IsUsed : {D : Type 0} → Ghosts D → D → Pages → ℕ → Type 0
-IsUsed g s p n = (rec : InodeRec) × IsNodeOf g s p n rec
+abbrev pub IsUsedNode : {D : Type 0} → Ghosts D → D → Pages → ℕ → Type 0
+IsUsedNode g s p n = (rec : InodeRec) × IsNodeOf g s p n rec
 
 -- a directory has this record
 abbrev pub IsDirectoryOf : {D : Type 0} → Ghosts D → D → Pages → InodeRec → Type 0

@@ -3,8 +3,8 @@ ghost use Rattle.std.specs.Prelude.{◌≡◌, IfOk, IsSome};
 ghost use Rattle.nl_inode.specs.Nodes.{page_of_node};
 ghost use Rattle.nl_meta.specs.Pages.{page_of};
 ghost use Rattle.nl_meta_running.specs.Holding.{HoldsPage};
-ghost use Rattle.nl_meta_running.specs.Reading.{Reads, stop_of};
-ghost use Rattle.nl_meta_running.specs.Running.{IsNeeded, IsNodeOf, IsUsed, Runs, RunsOn, running_on};
+ghost use Rattle.nl_meta_running.specs.Reading.{ReadsExplainStop, stop_of};
+ghost use Rattle.nl_meta_running.specs.Running.{IsNeeded, IsNodeOf, IsUsedNode, RunningIsRight, PreservesRunning, running_on};
 
 use crate::answer::Stop;
 use nl_field::InodeRec;
@@ -15,11 +15,11 @@ use nl_meta::Meta;
 /// Makes the page of an address that is needed resident, and touches it.
 pub fn hold<D: VirtualPages>(device: &mut D, meta: &mut Meta, vaddr: u32) -> Result<(), Stop>
     requires formed { D.formed device.old }
-    requires runs { Runs D.Counts device.old meta.old }
+    requires runs { RunningIsRight D.Counts device.old meta.old }
     requires needed { IsNeeded (D.shape device.old) (running_on D.Counts device.old meta.old) vaddr }
     ensures formed { D.formed device.new }
-    ensures kept { RunsOn D.Counts device.old meta.old device.new meta.new }
-    ensures reads { Reads D.Counts device.old device.new (stop_of result) }
+    ensures kept { PreservesRunning D.Counts device.old meta.old device.new meta.new }
+    ensures reads { ReadsExplainStop D.Counts device.old device.new (stop_of result) }
     ensures there { IfOk result (λ u. HoldsPage vaddr meta.old meta.new) }
 {
     match fetch(device, meta, vaddr) {
@@ -37,11 +37,11 @@ pub fn node<D: VirtualPages>(
     ino: u32,
 ) -> Result<InodeRec, Stop>
     requires formed { D.formed device.old }
-    requires runs { Runs D.Counts device.old meta.old }
-    requires used { IsUsed D.Counts device.old meta.old ino }
+    requires runs { RunningIsRight D.Counts device.old meta.old }
+    requires used { IsUsedNode D.Counts device.old meta.old ino }
     ensures formed { D.formed device.new }
-    ensures kept { RunsOn D.Counts device.old meta.old device.new meta.new }
-    ensures reads { Reads D.Counts device.old device.new (stop_of result) }
+    ensures kept { PreservesRunning D.Counts device.old meta.old device.new meta.new }
+    ensures reads { ReadsExplainStop D.Counts device.old device.new (stop_of result) }
     ensures node { IfOk result (IsNodeOf D.Counts device.old meta.old ino) }
     ensures there { IfOk result (λ rec. IsSome (page_of meta.new (page_of_node ino))) }
 {

@@ -14,8 +14,8 @@ use Rattle.nl_tree.specs.KeptSums.{overfull}
 use Rattle.nl_tree.specs.Represents.{entries_in, node_of, node_reached}
 use Rattle.nl_tree.specs.Tree.{Tree, entries_of, node_at}
 use Rattle.nl_tree.proofs.TreeProofs.{path_eq}
-use Rattle.nl_inode.specs.Free.{IsLeast, NoneFree, is_free}
-use Rattle.nl_inode.specs.FreeLaws.{Uses}
+use Rattle.nl_inode.specs.Free.{IsLeastFreeNumber, NoneFree, is_free}
+use Rattle.nl_inode.specs.FreeLaws.{UsesAddress}
 use Rattle.nl_inode.specs.Nodes.{Spaces}
 use Rattle.nl_inode.proofs.MarkTree.{set-below}
 use Rattle.nl_meta.specs.Committed.{VirtualMap}
@@ -74,7 +74,7 @@ module _ (shape : Shape) (pages : VirtualMap) (page_of_stamp : ℕ → Option Pa
       let f = charges.few_nodes in
       omega (arith, n, a, b, c, f)
 
-  pub some-nodes : (m : ℕ) → IsLeast m free.nodes → node_charge tree < shape.nodes
+  pub some-nodes : (m : ℕ) → IsLeastFreeNumber m free.nodes → node_charge tree < shape.nodes
   some-nodes m least =
       let below : m < shape.nodes = let s = set-below free.nodes m least.free_itself in let c = holds.count_nodes in omega (arith, s, c) in
       let n = no_longer (m ∷ used-numbers) (range_with_len 0 shape.nodes)
@@ -142,8 +142,8 @@ module _ (shape : Shape) (pages : VirtualMap) (page_of_stamp : ℕ → Option Pa
           let l = low in
           omega (arith, s, c, f, v, l)
 
-      unused : {k : ℕ} → Uses shape pages k → h.0 ≡ k → ⊥
-      unused u e = (holds.pool.each h.0 low high).0 h.1 (subst (Uses shape pages) (sym e) u)
+      unused : {k : ℕ} → UsesAddress shape pages k → h.0 ≡ k → ⊥
+      unused u e = (holds.pool.each h.0 low high).0 h.1 (subst (UsesAddress shape pages) (sym e) u)
 
       differ-all : EachTwo (λ a b. a ≢ b) (all shape pages free)
       differ-all = mapped_two (λ a b. a ≢ b) (λ (x : Bool × ℕ). x.1) flat (addresses_listed shape pages holds.right.tree.addresses).differ

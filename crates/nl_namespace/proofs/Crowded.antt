@@ -9,7 +9,7 @@ use Rattle.nl_field.specs.declared.inode.Kind.{Kind}
 use Rattle.nl_field.specs.declared.inode.Kind.TheVariants.{Dir, File, Unused}
 use Rattle.nl_field.specs.declared.shape.Shape.{Shape}
 use Rattle.nl_inode.specs.Free.{NoneFree, is_free}
-use Rattle.nl_inode.specs.FreeLaws.{NodesAreFree, PoolIsFree, Uses}
+use Rattle.nl_inode.specs.FreeLaws.{NodesAreFree, PoolIsFree, UsesAddress}
 use Rattle.nl_inode.specs.Nodes.{Spaces}
 use Rattle.nl_meta.specs.Committed.{VirtualMap}
 use Rattle.nl_meta.specs.Consistent.{IsNode, NodesRight}
@@ -53,7 +53,7 @@ module _ (shape : Shape) (pages : VirtualMap) (free : Spaces) where
   unfoldable pub all : List ℕ
   all = map (λ (y : Bool × ℕ). y.1) (flat_map addresses_of (used_nodes shape pages))
 
-  pub listed : (a : ℕ) → Uses shape pages a → Has all a
+  pub listed : (a : ℕ) → UsesAddress shape pages a → Has all a
   unfolding all
   listed a u =
       let at = u.2 in
@@ -61,22 +61,22 @@ module _ (shape : Shape) (pages : VirtualMap) (free : Spaces) where
       (flat-member addresses_of (used_nodes shape pages) (u.0, at.rec) (is_file_kind at.rec.kind, a) (is_used shape pages u.0 at.rec at.is_node)
       (map-member (λ a. (is_file_kind at.rec.kind, a)) (filter (λ a. not (a == 0)) at.rec.addresses) a (filter-member (λ a. not (a == 0)) at.rec.addresses a (place-has at.rec.addresses u.1 a at.in_slot) (not_from_false _ (ne_eqb a 0 at.not_zero)))))
 
-  pub used : (a : ℕ) → Has all a → Uses shape pages a
+  pub used : (a : ℕ) → Has all a → UsesAddress shape pages a
   unfolding all
   used a h =
       let y = member-map (λ (y : Bool × ℕ). y.1) (flat_map addresses_of (used_nodes shape pages)) a h in
       let m = member_address shape pages y.0 y.1 in
       let slot = slot-of m.1.addresses m.2 m.4 in
       let same = ap (λ (z : Bool × ℕ). z.1) m.6 ∙ y.2 in
-      subst (Uses shape pages) same (m.0, slot.0, record { rec = m.1; is_node = m.3; in_slot = slot.1; not_zero = m.5 })
+      subst (UsesAddress shape pages) same (m.0, slot.0, record { rec = m.1; is_node = m.3; in_slot = slot.1; not_zero = m.5 })
 
-  pool-used : PoolIsFree shape pages free → NoneFree free.pool → (a : ℕ) → 67 + shape.inode_pages ≤ a → a < shape.vaddrs → Uses shape pages a
+  pool-used : PoolIsFree shape pages free → NoneFree free.pool → (a : ℕ) → 67 + shape.inode_pages ≤ a → a < shape.vaddrs → UsesAddress shape pages a
   pool-used are none a low high = by (has-or-not all a)
     where
       first : free.first ≤ a
       first = let f = are.first in omega (arith, f, low)
 
-      by : Has all a ⊎ (Has all a → ⊥) → Uses shape pages a
+      by : Has all a ⊎ (Has all a → ⊥) → UsesAddress shape pages a
       by (inl h) = used a h
       by (inr far) = absurd (false-true (sym (and_right (nat_le free.first a) (is_free free.pool (a - free.first)) (none (a - free.first))) ∙ (are.each a first high).1 (λ u. far (listed a u))))
 

@@ -17,7 +17,7 @@ use Rattle.nl_meta.specs.Running.{or_stored, running_over}
 use Rattle.nl_meta.proofs.AddressProofs.{filled_of}
 use Rattle.nl_meta.proofs.Lists.{some_in}
 use Rattle.nl_meta.proofs.SlotProofs.{one_slot}
-use Rattle.nl_inode.specs.FreeLaws.{Uses}
+use Rattle.nl_inode.specs.FreeLaws.{UsesAddress}
 use Rattle.nl_inode.specs.Nodes.{PutsNode, page_of_node}
 use Rattle.nl_dir.specs.AfterLaws.{HasAddress}
 use Rattle.nl_dir.specs.Changes.{ChangesPages}
@@ -44,7 +44,7 @@ pub record Rewrites (d : ℕ) (was is : InodeRec) (changed : List ℕ) (old betw
 pub record IsNew (shape : Shape) (pages : VirtualMap) (a : ℕ) : Type 0 where
   pub from_pool : 67 + shape.inode_pages ≤ a
   pub in_pool : a < shape.vaddrs
-  pub unused : Uses shape pages a → ⊥
+  pub unused : UsesAddress shape pages a → ⊥
 
 or-there : (o stored : Option (List ℕ)) → IsSome o → or_stored o stored ≡ o
 or-there (Some bytes) stored h = refl

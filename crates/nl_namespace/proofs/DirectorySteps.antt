@@ -17,7 +17,7 @@ use Rattle.nl_meta.specs.Pages.{Pages, page_of}
 use Rattle.nl_meta.specs.Running.{running_over}
 use Rattle.nl_meta.proofs.Lists.{some_in}
 use Rattle.nl_inode.specs.Free.{is_free}
-use Rattle.nl_inode.specs.FreeLaws.{NodesAreFree, Uses}
+use Rattle.nl_inode.specs.FreeLaws.{NodesAreFree, UsesAddress}
 use Rattle.nl_inode.specs.Nodes.{Spaces, is_free_node}
 use Rattle.nl_dir.specs.AfterLaws.{HasAddress}
 use Rattle.nl_dir.proofs.LawProofs.{resident_is_running}
@@ -125,19 +125,19 @@ module _ (shape : Shape) (bounds : ShapeBounds shape) (device : VirtualMap) (d :
       )
 
   -- an address that the record has, or another node
-  pub uses-from : (a : ℕ) → Uses shape two a → ((k : ℕ) × HasAddress is k a) ⊎ ((k : ℕ) × (slot : ℕ) × (k ≢ d) × AddressAt shape one k slot a)
+  pub uses-from : (a : ℕ) → UsesAddress shape two a → ((k : ℕ) × HasAddress is k a) ⊎ ((k : ℕ) × (slot : ℕ) × (k ≢ d) × AddressAt shape one k slot a)
   uses-from a u = uses-then shape bounds one two d is change step.formed a u
 
-  pub uses-here : (k a : ℕ) → HasAddress is k a → Uses shape two a
+  pub uses-here : (k a : ℕ) → HasAddress is k a → UsesAddress shape two a
   uses-here k a h = (d, k, record { rec = is; is_node = is-after; in_slot = h.0; not_zero = h.1 })
 
-  pub uses-other : (k slot a : ℕ) → k ≢ d → AddressAt shape one k slot a → Uses shape two a
+  pub uses-other : (k slot a : ℕ) → k ≢ d → AddressAt shape one k slot a → UsesAddress shape two a
   uses-other k slot a far at = (k, slot, address-other shape bounds one two d change.same k slot a far at)
 
-  pub uses-to : (a : ℕ) → Uses shape one a → ((k : ℕ) × HasAddress was k a) ⊎ Uses shape two a
+  pub uses-to : (a : ℕ) → UsesAddress shape one a → ((k : ℕ) × HasAddress was k a) ⊎ UsesAddress shape two a
   uses-to a u = by (cases_eq u.0 d)
     where
-      by : (u.0 ≡ d) ⊎ (u.0 ≡ d → ⊥) → ((k : ℕ) × HasAddress was k a) ⊎ Uses shape two a
+      by : (u.0 ≡ d) ⊎ (u.0 ≡ d → ⊥) → ((k : ℕ) × HasAddress was k a) ⊎ UsesAddress shape two a
       by (inl e) =
           let at = subst (λ (k : ℕ). AddressAt shape one k u.1 a) e u.2 in
           inl (u.1, (subst (λ (r : InodeRec). slice_get (slots_of r) u.1 ≡ Some a) (some_in at.rec was (sym at.is_node.spelled ∙ step.is_node.spelled)) at.in_slot, at.not_zero))

@@ -11,13 +11,13 @@ use Rattle.nl_meta.specs.Nodes.{entry_named}
 use Rattle.nl_meta.specs.Pages.{Pages, page_of}
 use Rattle.nl_dir.proofs.LawProofs.{resident_is_running, right_is_directory}
 use Rattle.nl_namespace.specs.Holding.{HasEntries}
-use Rattle.nl_meta_running.specs.Running.{IsNodeOf, Runs, RunsOn, running_on, stored_on}
+use Rattle.nl_meta_running.specs.Running.{IsNodeOf, RunningIsRight, PreservesRunning, running_on, stored_on}
 use Rattle.nl_namespace.specs.Stepping.{InDirectory}
 use Rattle.nl_meta_running.proofs.Kept.{used-back}
 use Rattle.nl_meta_running.proofs.SameNeeded.{own}
 
-module _ {D : Type 0} (g : Ghosts D) (s : D) (p : Pages) (t : D) (q : Pages) (bounds : ShapeBounds (g.shape s)) (on : RunsOn g s p t q) (n : ℕ) (rec : InodeRec) (is : IsNodeOf g s p n rec) (dir : rec.kind ≡ Dir) where
-  pub entries-held : Runs g s p → ((k : ℕ) → k < div_ceil rec.size 64 → IsSome (page_of q (get_or rec.addresses k 0))) → HasEntries g s p q rec
+module _ {D : Type 0} (g : Ghosts D) (s : D) (p : Pages) (t : D) (q : Pages) (bounds : ShapeBounds (g.shape s)) (on : PreservesRunning g s p t q) (n : ℕ) (rec : InodeRec) (is : IsNodeOf g s p n rec) (dir : rec.kind ≡ Dir) where
+  pub entries-held : RunningIsRight g s p → ((k : ℕ) → k < div_ceil rec.size 64 → IsSome (page_of q (get_or rec.addresses k 0))) → HasEntries g s p q rec
   entries-held runs there =
       let owned = own (g.shape s) bounds (running_on g s p) (running_on g t q) on.needed n rec is dir in
       let right = right_is_directory (g.shape s) (running_on g s p) n rec runs.addresses runs.entries is dir in
@@ -35,7 +35,7 @@ module _ {D : Type 0} (g : Ghosts D) (s : D) (p : Pages) (t : D) (q : Pages) (bo
   has-before r has = record { directory = has.directory; entries = has.entries ∙ (own (g.shape s) bounds (running_on g s p) (running_on g t q) on.needed n rec is dir).entries }
 
 -- what a name has in a directory, before a call that leaves it
-pub directory-back : {D : Type 0} (g : Ghosts D) (s : D) (p : Pages) (t : D) (q : Pages) → ShapeBounds (g.shape s) → RunsOn g s p t q → (n : ℕ) (name : List ℕ) (o : Option EntryRec)
+pub directory-back : {D : Type 0} (g : Ghosts D) (s : D) (p : Pages) (t : D) (q : Pages) → ShapeBounds (g.shape s) → PreservesRunning g s p t q → (n : ℕ) (name : List ℕ) (o : Option EntryRec)
     → InDirectory g t q n name o → InDirectory g s p n name o
 unfolding entry_named
 directory-back g s p t q bounds on n name o d =

@@ -11,7 +11,7 @@ use Rattle.nl_field.specs.declared.inode.Kind.{Kind}
 use Rattle.nl_field.specs.declared.inode.Kind.TheVariants.{Unused, File, Dir}
 use Rattle.nl_field.specs.declared.shape.Shape.{Shape}
 use Rattle.nl_tree.specs.CountLaws.{Differ}
-use Rattle.nl_tree.specs.NodeCharges.{NamesDiffer, ReachedNodes}
+use Rattle.nl_tree.specs.NodeCharges.{EntryNamesDiffer, ReachedNodes}
 use Rattle.nl_tree.specs.KeptSums.{is_entry_of}
 use Rattle.nl_tree.specs.Represents.{Represents, entries_in, node_named, node_reached}
 use Rattle.nl_tree.specs.Tree.{Tree, entries_of}
@@ -63,12 +63,12 @@ in-rest e es x m none at =
     ap (λ t. cond t (Some e.1) (node_named x es))
     (not_true (names_eq x e.0) (λ h. absurd (none_some m (sym none ∙ ap (λ (z : List ℕ). node_named z es) (sym (eq_name x e.0 h)) ∙ at)))) ∙ at
 
-in-named : (m : ℕ) (es : List (List ℕ × ℕ)) → NamesDiffer es → Has (numbers es) m → (x : List ℕ) × (node_named x es ≡ Some m)
+in-named : (m : ℕ) (es : List (List ℕ × ℕ)) → EntryNamesDiffer es → Has (numbers es) m → (x : List ℕ) × (node_named x es ≡ Some m)
 in-named m [] d h = absurd h
 in-named m (y ∷ es) d (inl e) = (y.0, at-head y es ∙ some e)
 in-named m (y ∷ es) d (inr h) = let r = in-named m es d.1 h in (r.0, in-rest y es r.0 m d.0 r.1)
 
-differ-numbers : (es : List (List ℕ × ℕ)) → NamesDiffer es → ((x y : List ℕ) (m : ℕ) → node_named x es ≡ Some m → node_named y es ≡ Some m → x ≡ y) → Differ (numbers es)
+differ-numbers : (es : List (List ℕ × ℕ)) → EntryNamesDiffer es → ((x y : List ℕ) (m : ℕ) → node_named x es ≡ Some m → node_named y es ≡ Some m → x ≡ y) → Differ (numbers es)
 differ-numbers [] d same = tt
 differ-numbers (e ∷ es) d same =
     ((λ h. again (in-named e.1 es d.1 h)), differ-numbers es d.1 (λ x y m a b. same x y m (in-rest e es x m d.0 a) (in-rest e es y m d.0 b)))
@@ -85,7 +85,7 @@ module _ (shape : Shape) (pages : VirtualMap) (page_of_stamp : ℕ → Option Pa
   abbrev b : ℕ → List ℕ
   b = bytes_for page_of_stamp
 
-  names-in : (es : List EntryRec) → EachTwo (λ e k. e.name ≢ k.name) es → NamesDiffer (map (λ e. (e.name, e.ino)) es)
+  names-in : (es : List EntryRec) → EachTwo (λ e k. e.name ≢ k.name) es → EntryNamesDiffer (map (λ e. (e.name, e.ino)) es)
   names-in [] h = tt
   names-in (e ∷ es) h = (by (node_named e.name (map (λ e. (e.name, e.ino)) es)) refl, names-in es h.1)
     where
@@ -106,17 +106,17 @@ module _ (shape : Shape) (pages : VirtualMap) (page_of_stamp : ℕ → Option Pa
       at : (i : ℕ) → Has (range_with_len 0 rec.size) i → (x : EntryRec) → entry_of (bytes_of_place pages rec i) ≡ Some x → EntryAt shape pages n i x
       at i m x a = record { rec = rec; is_node = is; is_dir = dir; below = omega (arith, (member-range i 0 rec.size m).1); spelled = a }
 
-  names-of : (n : ℕ) → NamesDiffer (entries_in (g n).body)
+  names-of : (n : ℕ) → EntryNamesDiffer (entries_in (g n).body)
   names-of n = by (node_or_none shape pages n)
     where
-      kinds : (rec : InodeRec) → IsNode shape pages n rec → (k : Kind) → rec.kind ≡ k → NamesDiffer (entries_in (body_of pages rec k))
+      kinds : (rec : InodeRec) → IsNode shape pages n rec → (k : Kind) → rec.kind ≡ k → EntryNamesDiffer (entries_in (body_of pages rec k))
       kinds rec is Unused e = tt
       kinds rec is File e = tt
       kinds rec is Dir e = names-in (entries_of_inode pages rec) (entries-two n rec is e)
 
-      by : NodeOf shape pages n ⊎ ((g n).body ≡ unused) → NamesDiffer (entries_in (g n).body)
-      by (inl h) = subst (λ (x : GraphNode). NamesDiffer (entries_in x.body)) (sym (node_is shape pages n h.rec h.is)) (kinds h.rec h.is h.rec.kind refl)
-      by (inr u) = subst (λ (x : NodeBody). NamesDiffer (entries_in x)) (sym u) tt
+      by : NodeOf shape pages n ⊎ ((g n).body ≡ unused) → EntryNamesDiffer (entries_in (g n).body)
+      by (inl h) = subst (λ (x : GraphNode). EntryNamesDiffer (entries_in x.body)) (sym (node_is shape pages n h.rec h.is)) (kinds h.rec h.is h.rec.kind refl)
+      by (inr u) = subst (λ (x : NodeBody). EntryNamesDiffer (entries_in x)) (sym u) tt
 
   abbrev ns : List ℕ
   ns = numbers_used shape pages page_of_stamp has

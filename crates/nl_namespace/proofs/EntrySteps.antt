@@ -13,7 +13,7 @@ use Rattle.nl_meta.specs.Nodes.{graph_of}
 use Rattle.nl_meta.specs.Pages.{Pages, besides_0, page_of}
 use Rattle.nl_meta.specs.Running.{running_over}
 use Rattle.nl_meta.proofs.PageProofs.{none as none-changed}
-use Rattle.nl_inode.specs.FreeLaws.{Uses}
+use Rattle.nl_inode.specs.FreeLaws.{UsesAddress}
 use Rattle.nl_inode.specs.Nodes.{Spaces}
 use Rattle.nl_tree.specs.GraphLaws.{entry_at}
 use Rattle.nl_tree.specs.Represents.{node_of}
@@ -32,7 +32,7 @@ pub record EntryStep (shape : Shape) (device : VirtualMap) (d : ℕ) (name : Lis
   pub bodies : (bytes_of : ℕ → List ℕ) (k : ℕ) → node_of bytes_of (graph_of shape (running_over device q) k).body ≡ node_of bytes_of (graph_of shape (running_over device p) k).body
   pub node : (k : ℕ) (r : InodeRec) → k ≢ d → IsNode shape (running_over device p) k r → IsNode shape (running_over device q) k r
   pub back : (k : ℕ) (r : InodeRec) → k ≢ d → IsNode shape (running_over device q) k r → IsNode shape (running_over device p) k r
-  pub needs : (b : ℕ) → Uses shape (running_over device q) b → Uses shape (running_over device p) b ⊎ IsSome (page_of q b)
+  pub needs : (b : ℕ) → UsesAddress shape (running_over device q) b → UsesAddress shape (running_over device p) b ⊎ IsSome (page_of q b)
 
 at-node : (old new : Graph) (k : ℕ) → new k ≡ old k → (x : List ℕ) → entry_at new k x ≡ entry_at old k x
 at-node old new k e x = ap (λ (z : GraphNode). entry_at (λ i. z) k x) e

@@ -19,7 +19,7 @@ use Rattle.nl_tree.specs.declared.reply.Refusal.TheVariants.{Enotdir}
 use Rattle.nl_tree.proofs.GraphProofs.{eq_name, name_eq, names_eq}
 use Rattle.nl_dir.proofs.ListProofs.{entries_by_lists}
 use Rattle.nl_namespace.specs.Paths.{onward, walk_refusal, within}
-use Rattle.nl_meta_running.specs.Running.{IsNodeOf, IsUsed, Runs, running_on}
+use Rattle.nl_meta_running.specs.Running.{IsNodeOf, IsUsedNode, RunningIsRight, running_on}
 use Rattle.nl_namespace.specs.Stepping.{InDirectory}
 
 -- both tests of names are one
@@ -104,7 +104,7 @@ module _ {D : Type 0} (g : Ghosts D) (s : D) (p : Pages) where
     refused-file rec is file names = ap (λ (b : NodeBody). within b name names (λ m. walk_refusal graph m names)) (body-is n rec is File file)
 
     -- the node that an entry names is used
-    pub entry-used : Runs g s p → (e : EntryRec) → InDirectory g s p n name (Some e) → IsUsed g s p e.ino
+    pub entry-used : RunningIsRight g s p → (e : EntryRec) → InDirectory g s p n name (Some e) → IsUsedNode g s p e.ino
     unfolding entry_named
     entry-used runs e d =
         let lists = (entries_by_lists (g.shape s) (running_on g s p) runs.addresses).0 runs.entries in
@@ -112,7 +112,7 @@ module _ {D : Type 0} (g : Ghosts D) (s : D) (p : Pages) where
         let good = lists.good n e (record { rec = d.rec; is_node = d.is_node; is_dir = d.is_dir; has = has }) in
         (good.target, good.is_node)
 
-  pub root-used : ShapeBounds (g.shape s) → Runs g s p → IsUsed g s p 0
+  pub root-used : ShapeBounds (g.shape s) → RunningIsRight g s p → IsUsedNode g s p 0
   root-used bounds runs =
       let b = bounds.some_nodes in
       let below : 0 < (g.shape s).nodes = omega (arith, b) in

@@ -16,11 +16,11 @@ use Rattle.nl_meta.proofs.Lists.{none_some}
 use Rattle.nl_inode.specs.Free.{is_free}
 use Rattle.nl_inode.specs.Nodes.{AddressBecomes, Spaces, is_free_address, page_of_node}
 use Rattle.nl_dir.specs.Changes.{changed_by_removal}
-use Rattle.nl_dir.specs.Directory.{HasRoomFor, last_alone, shorter}
+use Rattle.nl_dir.specs.Directory.{HasRoomForDirty, last_alone, shorter}
 use Rattle.nl_dir.proofs.LawProofs.{resident_is_running}
 use Rattle.nl_dir.proofs.Records.{spelled-dir}
 use Rattle.nl_tree.specs.GraphLaws.{entry_at}
-use Rattle.nl_namespace.specs.Entering.{FitsBehind, FreeAreNew, Gives, HasDirectory, HasFreeAddress, HasNamed, TakesOut}
+use Rattle.nl_namespace.specs.Entering.{FitsBehind, FreeAreNewToDirectory, ReturnsAddress, HasDirectory, HasFreeAddress, HasNamed, TakesOut}
 use Rattle.nl_namespace.proofs.DirectoryChanges.{IsNew}
 use Rattle.nl_namespace.proofs.DirectorySteps.{dir-entry}
 use Rattle.nl_namespace.proofs.NodeChanges.{place-at}
@@ -56,7 +56,7 @@ module _ (shape : Shape) (bounds : ShapeBounds shape) (device : VirtualMap) (p :
   abbrev one : VirtualMap
   one = running_over device p
 
-  pub has-held : (room : ℕ) → HasRoomFor room p → HasDirectory d rec room p
+  pub has-held : (room : ℕ) → HasRoomForDirty room p → HasDirectory d rec room p
   has-held room fits = record {
     node_there = held.node_there;
     spelled = sym (node-over device p d held.node_there) ∙ held.is_node.spelled;
@@ -75,7 +75,7 @@ module _ (shape : Shape) (bounds : ShapeBounds shape) (device : VirtualMap) (p :
   address-there i h = place-at shape one d rec held.is_node held.is_dir i h
 
   -- an entry that is there can be taken out
-  pub named-fits : (x : List ℕ) (m : ℕ) → entry_at (graph_of shape one) d x ≡ Some m → HasRoomFor 3 p → HasNamed d x p free
+  pub named-fits : (x : List ℕ) (m : ℕ) → entry_at (graph_of shape one) d x ≡ Some m → HasRoomForDirty 3 p → HasNamed d x p free
   named-fits x m e room = record {
     rec = rec;
     has = has-held 3 room;
@@ -93,7 +93,7 @@ module _ (shape : Shape) (bounds : ShapeBounds shape) (device : VirtualMap) (p :
           let v = bounds.addresses in
           (omega (arith, low, f), omega (arith, high, f, c, v))
 
-  free-new : FreeAreNew rec p free
+  free-new : FreeAreNewToDirectory rec p free
   free-new = record { each = each; unused = unused }
     where
       new : (a : ℕ) → is_free_address free a ≡ true → IsNew shape one a
@@ -114,7 +114,7 @@ module _ (shape : Shape) (bounds : ShapeBounds shape) (device : VirtualMap) (p :
       unused a i f h e = (new a f).unused (d, i / 64, subst (AddressAt shape one d (i / 64)) e (address-there i h))
 
   -- one of a new name can be put in
-  pub behind-fits : (entry : EntryRec) → rec.size < 1024 → (rec.size % 64 ≡ 0 → HasFreeAddress free) → entry_at (graph_of shape one) d entry.name ≡ None → HasRoomFor 2 p → FitsBehind d entry p free
+  pub behind-fits : (entry : EntryRec) → rec.size < 1024 → (rec.size % 64 ≡ 0 → HasFreeAddress free) → entry_at (graph_of shape one) d entry.name ≡ None → HasRoomForDirty 2 p → FitsBehind d entry p free
   behind-fits entry few address none room = record {
     rec = rec;
     has = has-held 2 room;
@@ -164,11 +164,11 @@ module _ (shape : Shape) (bounds : ShapeBounds shape) (device : VirtualMap) (d :
   free-stays b f = by takes.given refl
     where
       by : (o : Option ℕ) → takes.given ≡ o → is_free_address t b ≡ true
-      by None e = subst (λ (z : Spaces). is_free_address z b ≡ true) (sym (subst (λ (o : Option ℕ). Gives o s t) e takes.gives)) f
+      by None e = subst (λ (z : Spaces). is_free_address z b ≡ true) (sym (subst (λ (o : Option ℕ). ReturnsAddress o s t) e takes.gives)) f
       by (Some a) e = of (cases_eq (b - s.first) (a - s.first))
         where
           becomes : AddressBecomes a true s t
-          becomes = subst (λ (o : Option ℕ). Gives o s t) e takes.gives
+          becomes = subst (λ (o : Option ℕ). ReturnsAddress o s t) e takes.gives
 
           parts : (nat_le s.first b ≡ true) × (is_free s.pool (b - s.first) ≡ true)
           parts = and_parts (nat_le s.first b) _ f
@@ -201,7 +201,7 @@ module _ (shape : Shape) (bounds : ShapeBounds shape) (device : VirtualMap) (d :
       by (Some a) f =
           let low = given-low shape bounds device d name p q s t state below takes a (sym takes.removes.given ∙ f) in
           let first = state.pool.first in
-          (a, given-free a (omega (arith, low, first)) (subst (λ (o : Option ℕ). Gives o s t) f takes.gives))
+          (a, given-free a (omega (arith, low, first)) (subst (λ (o : Option ℕ). ReturnsAddress o s t) f takes.gives))
 
   pub ready-here : Ready shape device q t d
   ready-here = record {

@@ -17,32 +17,32 @@ use Rattle.nl_meta.specs.Nodes.{address_of_place, graph_of}
 use Rattle.nl_meta.proofs.Lists.{any-none, none_some, some_in, true_false}
 use Rattle.nl_meta.specs.Pages.{Pages, besides_0, page_of}
 use Rattle.nl_inode.specs.Nodes.{Spaces, page_of_node}
-use Rattle.nl_dir.specs.Directory.{HasRoomFor}
+use Rattle.nl_dir.specs.Directory.{HasRoomForDirty}
 use Rattle.nl_tree.specs.Calls.{AreNames}
 use Rattle.nl_tree.specs.Step.{is_too_long}
 use Rattle.nl_tree.specs.Tree.{is_root}
-use Rattle.nl_meta_running.specs.Running.{IsNodeOf, Runs, RunsOn, running_on}
+use Rattle.nl_meta_running.specs.Running.{IsNodeOf, RunningIsRight, PreservesRunning, running_on}
 use Rattle.nl_meta_running.proofs.Holds.{bounds-of}
 use Rattle.nl_meta_running.proofs.SameNeeded.{own}
 use Rattle.nl_namespace.specs.Changing.{Changes, FreeFits}
-use Rattle.nl_namespace.specs.Making.{FitsNew, HasSpare, MakesIn, empty_node}
+use Rattle.nl_namespace.specs.Making.{FitsNew, HasRoomForNode, MakesIn, empty_node}
 use Rattle.nl_namespace.specs.Naming.{MakesName}
-use Rattle.nl_namespace.specs.Placing.{IsHeld, IsPlace}
+use Rattle.nl_namespace.specs.Placing.{DirectoryIsResident, IsPlaceOfPath}
 use Rattle.nl_namespace.specs.declared.place.Place.{Place}
 use Rattle.nl_namespace.proofs.Chains.{then-graph, then-runs}
 use Rattle.nl_namespace.proofs.MakeReady.{changes-after, fits-new, fits-then, placed-then, same-last}
 use Rattle.nl_namespace.proofs.MakeSteps.{changes, makes-name}
 
 -- the last name of the path
-pub last-name : {D : Type 0} (g : Ghosts D) (s : D) (p : Pages) (path : List (List ℕ)) (place : Place) (at : IsPlace g s p path place) (other : List ℕ) → slice_get path (length path - 1) ≡ Some other → at.name ≡ other
+pub last-name : {D : Type 0} (g : Ghosts D) (s : D) (p : Pages) (path : List (List ℕ)) (place : Place) (at : IsPlaceOfPath g s p path place) (other : List ℕ) → slice_get path (length path - 1) ≡ Some other → at.name ≡ other
 last-name g s p path place at other e = same-last at.named.parent at.name other (sym (ap (λ (z : List (List ℕ)). slice_get z (length z - 1)) at.named.split) ∙ e)
 
-module _ {D : Type 0} (g : Ghosts D) (s : D) (p : Pages) (t : D) (q : Pages) (volume : IsVolumeShape (g.shape s)) (later : IsVolumeShape (g.shape t)) (runs : Runs g s p) (on : RunsOn g s p t q) (free : Spaces) (fits : FreeFits g s p free) (path : List (List ℕ)) (place : Place)
-    (at : IsPlace g s p path place) (held : IsHeld g s p p place.dir place.rec) (absent : place.entry ≡ None) (other : List ℕ) (last : slice_get path (length path - 1) ≡ Some other) (m : ℕ) (spare : HasSpare free place.rec.size m) (there : IsSome (page_of q (page_of_node m))) where
-  at-later : IsPlace g t q path place
+module _ {D : Type 0} (g : Ghosts D) (s : D) (p : Pages) (t : D) (q : Pages) (volume : IsVolumeShape (g.shape s)) (later : IsVolumeShape (g.shape t)) (runs : RunningIsRight g s p) (on : PreservesRunning g s p t q) (free : Spaces) (fits : FreeFits g s p free) (path : List (List ℕ)) (place : Place)
+    (at : IsPlaceOfPath g s p path place) (held : DirectoryIsResident g s p p place.dir place.rec) (absent : place.entry ≡ None) (other : List ℕ) (last : slice_get path (length path - 1) ≡ Some other) (m : ℕ) (spare : HasRoomForNode free place.rec.size m) (there : IsSome (page_of q (page_of_node m))) where
+  at-later : IsPlaceOfPath g t q path place
   at-later = placed-then g s p volume runs path place at t q on
 
-  runs-later : Runs g t q
+  runs-later : RunningIsRight g t q
   runs-later = then-runs g s p t q volume on runs
 
   fits-later : FreeFits g t q free
@@ -51,12 +51,12 @@ module _ {D : Type 0} (g : Ghosts D) (s : D) (p : Pages) (t : D) (q : Pages) (vo
   kept-there : (v : ℕ) → IsSome (page_of p v) → IsSome (page_of q v)
   kept-there v h = ap is_some (on.stays v h) ∙ h
 
-  pub made-fits : HasRoomFor 8 p → FitsNew place.dir m other q free
+  pub made-fits : HasRoomForDirty 8 p → FitsNew place.dir m other q free
   made-fits room =
       subst (λ (x : List ℕ). FitsNew place.dir m x q free) (last-name g t q path place at-later other last)
       (fits-new g t q later runs-later path place at-later q (kept-there (page_of_node place.dir) held.node) (λ i h. kept-there (address_of_place place.rec i) (held.entries.directory.places.there i h)) free fits-later absent (room-later room) m spare there)
     where
-      room-later : HasRoomFor 8 p → HasRoomFor 3 q
+      room-later : HasRoomForDirty 8 p → HasRoomForDirty 3 q
       room-later r = let e = ap (λ (ds : List ℕ). length (besides_0 ds)) on.dirty in omega (arith, e, r)
 
   module _ (kind : Kind) (used : kind ≢ Unused) (r : Pages) (after : Spaces) (makes : MakesIn place.dir m kind other q r free after) where
@@ -117,7 +117,7 @@ not-empty-root [] far = absurd (far refl)
 not-empty-root (x ∷ path) far = refl
 
 -- a directory that is held after a call was held for the volume as it is then
-pub held-then : {D : Type 0} (g : Ghosts D) (s : D) (p : Pages) (t : D) (q : Pages) → IsVolumeShape (g.shape s) → (on : RunsOn g s p t q) → (n : ℕ) (rec : InodeRec) → IsNodeOf g s p n rec → rec.kind ≡ Dir → IsHeld g s p q n rec → IsHeld g t q q n rec
+pub held-then : {D : Type 0} (g : Ghosts D) (s : D) (p : Pages) (t : D) (q : Pages) → IsVolumeShape (g.shape s) → (on : PreservesRunning g s p t q) → (n : ℕ) (rec : InodeRec) → IsNodeOf g s p n rec → rec.kind ≡ Dir → DirectoryIsResident g s p q n rec → DirectoryIsResident g t q q n rec
 held-then g s p t q volume on n rec is dir held = record {
   node = held.node;
   entries = record {

@@ -12,7 +12,7 @@ use Rattle.nl_meta.proofs.Lists.{some_in}
 use Rattle.nl_meta.specs.Pages.{Pages, besides_0, page_of}
 use Rattle.nl_inode.specs.Nodes.{Spaces, is_free_address, page_of_node}
 use Rattle.nl_inode.proofs.MarkTree.{set-below}
-use Rattle.nl_dir.specs.Directory.{HasRoomFor, IsDirectory}
+use Rattle.nl_dir.specs.Directory.{HasRoomForDirty, IsDirectory}
 use Rattle.nl_dir.proofs.LawProofs.{entries_in_order, resident_is_running}
 use Rattle.nl_tree.specs.Represents.{entries_in, node_reached}
 use Rattle.nl_tree.specs.Step.{first_of, is_too_long, when}
@@ -23,15 +23,15 @@ use Rattle.nl_tree.specs.declared.reply.Space.{Space}
 use Rattle.nl_tree.proofs.ChangeProofs.{at_end}
 use Rattle.nl_meta.proofs.PageProofs.{both, loaded}
 use Rattle.nl_meta_running.proofs.Kept.{loads-on}
-use Rattle.nl_meta_running.specs.Running.{IsNodeOf, Runs, RunsOn, running_on, stored_on}
+use Rattle.nl_meta_running.specs.Running.{IsNodeOf, RunningIsRight, PreservesRunning, running_on, stored_on}
 use Rattle.nl_meta_running.proofs.Holds.{bounds-of}
 use Rattle.nl_meta_running.proofs.SameNeeded.{own}
-use Rattle.nl_namespace.specs.Changing.{Changes, FreeFits, Leaves}
-use Rattle.nl_namespace.specs.Entering.{FreeAreNew, HasDirectory}
-use Rattle.nl_namespace.specs.Making.{FitsNew, HasSpare}
-use Rattle.nl_namespace.specs.Naming.{HasPlace, IsFull, LacksRoom, MakesNode, NameIn, refusal_of_name}
+use Rattle.nl_namespace.specs.Changing.{Changes, FreeFits, ChangeLeaves}
+use Rattle.nl_namespace.specs.Entering.{FreeAreNewToDirectory, HasDirectory}
+use Rattle.nl_namespace.specs.Making.{FitsNew, HasRoomForNode}
+use Rattle.nl_namespace.specs.Naming.{HasRoomForName, IsFull, LacksRoom, MakesNode, NameIn, refusal_of_name}
 use Rattle.nl_namespace.specs.Paths.{walk_refusal}
-use Rattle.nl_namespace.specs.Placing.{IsPlace}
+use Rattle.nl_namespace.specs.Placing.{IsPlaceOfPath}
 use Rattle.nl_namespace.specs.declared.place.Place.{Place}
 use Rattle.nl_namespace.specs.declared.answer.Change.{Change}
 use Rattle.nl_namespace.specs.declared.answer.Change.TheVariants as change
@@ -73,7 +73,7 @@ pub refusal-is : (graph : Graph) (path : List (List ℕ)) (a b c : Bool) (w : Op
     → refusal_of_name graph path ≡ first_of (when a Enametoolong ∷ when b Eexist ∷ w ∷ when c Eexist ∷ [])
 refusal-is graph path a b c w ea eb ew ec = λ i. first_of (when (ea i) Enametoolong ∷ when (eb i) Eexist ∷ ew i ∷ when (ec i) Eexist ∷ [])
 
-module _ {D : Type 0} (g : Ghosts D) (s : D) (p : Pages) (volume : IsVolumeShape (g.shape s)) (runs : Runs g s p) (path : List (List ℕ)) (place : Place) (at : IsPlace g s p path place) where
+module _ {D : Type 0} (g : Ghosts D) (s : D) (p : Pages) (volume : IsVolumeShape (g.shape s)) (runs : RunningIsRight g s p) (path : List (List ℕ)) (place : Place) (at : IsPlaceOfPath g s p path place) where
   abbrev graph : Graph
   graph = graph_of (g.shape s) (running_on g s p)
 
@@ -109,13 +109,13 @@ module _ {D : Type 0} (g : Ghosts D) (s : D) (p : Pages) (volume : IsVolumeShape
     full = subst (λ (c : ℕ). IsFull free c space) (sym count-is) full;
   }
 
-  pub has-place : (free : Spaces) (m : ℕ) → HasSpare free place.rec.size m → HasPlace free graph path
-  has-place free m spare = record { n = place.dir; name = at.name; place = at.named; m = m; spare = subst (λ (c : ℕ). HasSpare free c m) (sym count-is) spare }
+  pub has-place : (free : Spaces) (m : ℕ) → HasRoomForNode free place.rec.size m → HasRoomForName free graph path
+  has-place free m spare = record { n = place.dir; name = at.name; place = at.named; m = m; spare = subst (λ (c : ℕ). HasRoomForNode free c m) (sym count-is) spare }
 
   pub size-fits : place.rec.size ≤ 1024
   size-fits = (spelled-dir place.rec at.is_dir is-directory.places.spelled).few
 
-  pub placed-then : (t : D) (q : Pages) → RunsOn g s p t q → IsPlace g t q path place
+  pub placed-then : (t : D) (q : Pages) → PreservesRunning g s p t q → IsPlaceOfPath g t q path place
   unfolding entry_named
   placed-then t q on = record {
     name = at.name;
@@ -131,7 +131,7 @@ module _ {D : Type 0} (g : Ghosts D) (s : D) (p : Pages) (volume : IsVolumeShape
 
   module _ (q : Pages) (node-there : IsSome (page_of p (page_of_node place.dir))) (there : (i : ℕ) → i < place.rec.size → IsSome (page_of p (address_of_place place.rec i))) where
     -- the directory in memory
-    pub has-directory : (room : ℕ) → HasRoomFor room p → HasDirectory place.dir place.rec room p
+    pub has-directory : (room : ℕ) → HasRoomForDirty room p → HasDirectory place.dir place.rec room p
     has-directory room fits = record {
       node_there = node-there;
       spelled = sym (node-over (stored_on g s) p place.dir node-there) ∙ at.is_node.spelled;
@@ -143,7 +143,7 @@ module _ {D : Type 0} (g : Ghosts D) (s : D) (p : Pages) (volume : IsVolumeShape
     unfolding entry_named
     named-there = sym (ap (λ (es : List EntryRec). find (λ e. bytes_eq e.name at.name) es) (resident_is_running (stored_on g s) p place.rec there).entries) ∙ at.entry
 
-    pub free-new : (free : Spaces) → FreeFits g s p free → FreeAreNew place.rec p free
+    pub free-new : (free : Spaces) → FreeFits g s p free → FreeAreNewToDirectory place.rec p free
     free-new free fits = record { each = each; unused = unused }
       where
         new : (a : ℕ) → is_free_address free a ≡ true → IsNew (g.shape s) (running_on g s p) a
@@ -164,7 +164,7 @@ module _ {D : Type 0} (g : Ghosts D) (s : D) (p : Pages) (volume : IsVolumeShape
         unused a i f h e =
             (new a f).unused (place.dir, i / 64, subst (AddressAt (g.shape s) (running_on g s p) place.dir (i / 64)) e (place-at (g.shape s) (running_on g s p) place.dir place.rec at.is_node at.is_dir i h))
 
-    pub fits-new : (free : Spaces) → FreeFits g s p free → place.entry ≡ None → HasRoomFor 3 p → (m : ℕ) → HasSpare free place.rec.size m → IsSome (page_of p (page_of_node m)) → FitsNew place.dir m at.name p free
+    pub fits-new : (free : Spaces) → FreeFits g s p free → place.entry ≡ None → HasRoomForDirty 3 p → (m : ℕ) → HasRoomForNode free place.rec.size m → IsSome (page_of p (page_of_node m)) → FitsNew place.dir m at.name p free
     fits-new free fits absent room m spare m-there = record {
       rec = place.rec;
       has = has-directory 3 room;
@@ -191,7 +191,7 @@ module _ {D : Type 0} (g : Ghosts D) (s : D) (p : Pages) (volume : IsVolumeShape
 
 -- ---- what was said of a volume after a reading call, of the one before it
 
-module _ {D : Type 0} (g : Ghosts D) (s : D) (p : Pages) (t : D) (q : Pages) (volume : IsVolumeShape (g.shape s)) (on : RunsOn g s p t q) where
+module _ {D : Type 0} (g : Ghosts D) (s : D) (p : Pages) (t : D) (q : Pages) (volume : IsVolumeShape (g.shape s)) (on : PreservesRunning g s p t q) where
   same-graph : graph_of (g.shape t) (running_on g t q) ≡ graph_of (g.shape s) (running_on g s p)
   same-graph = then-graph g s p t q volume on
 
@@ -237,7 +237,7 @@ module _ {D : Type 0} (g : Ghosts D) (s : D) (p : Pages) (t : D) (q : Pages) (vo
     pointers = c.pointers ∙ tagged-read g s p t q volume on;
   }
 
-  pub leaves-after : (u : D) (r : Pages) (free after : Spaces) (answer : Change) → Leaves g t q free u r after answer → Leaves g s p free u r after answer
+  pub leaves-after : (u : D) (r : Pages) (free after : Spaces) (answer : Change) → ChangeLeaves g t q free u r after answer → ChangeLeaves g s p free u r after answer
   leaves-after u r free after (change.Changed lost) l = changes-after u r after lost l
   leaves-after u r free after (change.No refusal) l = (then-on g s p t q volume on u r l.0, l.1)
   leaves-after u r free after change.Fault l = (then-on g s p t q volume on u r l.0, l.1)

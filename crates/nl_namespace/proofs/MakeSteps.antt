@@ -18,7 +18,7 @@ use Rattle.nl_meta.specs.Nodes.{graph_of, held_by, inode_at}
 use Rattle.nl_meta.specs.Pages.{Pages, page_of}
 use Rattle.nl_meta.specs.Running.{running_over}
 use Rattle.nl_meta.proofs.Lists.{none_some, some_in}
-use Rattle.nl_inode.specs.FreeLaws.{Uses}
+use Rattle.nl_inode.specs.FreeLaws.{UsesAddress}
 use Rattle.nl_inode.specs.Nodes.{Spaces, is_free_node, page_of_node, taken_as}
 use Rattle.nl_inode.proofs.MarkTree.{set-below}
 use Rattle.nl_dir.specs.ListLaws.{ListsRight}
@@ -27,12 +27,12 @@ use Rattle.nl_tree.specs.GraphLaws.{AddsEntry, NamedOnce, entry_at}
 use Rattle.nl_tree.specs.Represents.{node_of}
 use Rattle.nl_tree.proofs.ChangeProofs.{graph_changes}
 use Rattle.nl_tree.proofs.GraphProofs.{eq_name, name_eq, names_eq}
-use Rattle.nl_meta_running.specs.Running.{IsNeeded, IsNodeOf, Runs, running_on, stored_on}
+use Rattle.nl_meta_running.specs.Running.{IsNeeded, IsNodeOf, RunningIsRight, running_on, stored_on}
 use Rattle.nl_meta_running.proofs.Holds.{bounds-of, reads-none}
 use Rattle.nl_namespace.specs.Changing.{Changes, FileStays, FreeFits}
 use Rattle.nl_namespace.specs.Making.{MakesIn, empty_node}
 use Rattle.nl_namespace.specs.Naming.{MakesName}
-use Rattle.nl_namespace.specs.Placing.{IsPlace}
+use Rattle.nl_namespace.specs.Placing.{IsPlaceOfPath}
 use Rattle.nl_namespace.specs.declared.place.Place.{Place}
 use Rattle.nl_namespace.proofs.DirectorySteps.{dir-entry, dir-node}
 use Rattle.nl_namespace.proofs.Links.{Led, entry-listed, led-of-lists, lists-of-graph, once-of-lists}
@@ -43,7 +43,7 @@ use Rattle.nl_namespace.proofs.States.{Follows, State, follows-then}
 
 -- ---- any volume
 
-module _ {D : Type 0} (g : Ghosts D) (s : D) (p : Pages) (runs : Runs g s p) where
+module _ {D : Type 0} (g : Ghosts D) (s : D) (p : Pages) (runs : RunningIsRight g s p) where
   pub lists : ListsRight (g.shape s) (running_on g s p)
   lists = (entries_by_lists (g.shape s) (running_on g s p) runs.addresses).0 runs.entries
 
@@ -67,7 +67,7 @@ module _ {D : Type 0} (g : Ghosts D) (s : D) (p : Pages) (runs : Runs g s p) whe
 pub fits-of : {D : Type 0} (g : Ghosts D) (s : D) (p : Pages) (free : Spaces) → State (g.shape s) (stored_on g s) p free → FreeFits g s p free
 fits-of g s p free state = record { count_nodes = state.count_nodes; count_pool = state.count_pool; nodes = state.nodes; pool = state.pool }
 
-module _ {D : Type 0} (g : Ghosts D) (s : D) (p q : Pages) (free after : Spaces) (volume : IsVolumeShape (g.shape s)) (runs : Runs g s p) (fits : FreeFits g s p free) (path : List (List ℕ)) (place : Place) (at : IsPlace g s p path place)
+module _ {D : Type 0} (g : Ghosts D) (s : D) (p q : Pages) (free after : Spaces) (volume : IsVolumeShape (g.shape s)) (runs : RunningIsRight g s p) (fits : FreeFits g s p free) (path : List (List ℕ)) (place : Place) (at : IsPlaceOfPath g s p path place)
     (absent : place.entry ≡ None) (m : ℕ) (kind : Kind) (used : kind ≢ Unused) (is-free : is_free_node free m ≡ true) (there : IsSome (page_of p (page_of_node m))) (makes : MakesIn place.dir m kind at.name p q free after) where
   abbrev shape : Shape
   shape = g.shape s
@@ -266,7 +266,7 @@ module _ {D : Type 0} (g : Ghosts D) (s : D) (p q : Pages) (free after : Spaces)
       absent-after v (inl e) gone = runs.absent v (inl e) (gone-before v gone)
       absent-after v (inr u) gone = by (put-needs shape bounds device n makes.entry makes.between q makes.free after state1 at.is_node.below makes.puts v u)
         where
-          by : Uses shape mid v ⊎ IsSome (page_of q v) → g.tells
+          by : UsesAddress shape mid v ⊎ IsSome (page_of q v) → g.tells
           by (inl u) = runs.absent v (inr ((new-uses shape bounds device m kind makes.generation p makes.between free makes.free state below used unused there makes.node makes.taken v).0 u)) (gone-before v gone)
           by (inr there) = absurd (not-there (ap is_some (sym gone) ∙ there))
             where

@@ -19,7 +19,7 @@ use Rattle.nl_meta.specs.Pages.{Pages, besides_0, page_of}
 use Rattle.nl_meta.specs.Running.{running_over}
 use Rattle.nl_meta.proofs.Lists.{none_some, some_in}
 use Rattle.nl_inode.specs.Nodes.{Spaces, page_of_node}
-use Rattle.nl_dir.specs.Directory.{HasRoomFor}
+use Rattle.nl_dir.specs.Directory.{HasRoomForDirty}
 use Rattle.nl_dir.proofs.LawProofs.{only_own_pages}
 use Rattle.nl_tree.specs.GraphLaws.{entry_at}
 use Rattle.nl_tree.specs.Represents.{node_reached}
@@ -29,13 +29,13 @@ use Rattle.nl_tree.specs.declared.reply.Refusal.TheVariants.{Enotempty}
 use Rattle.nl_tree.proofs.ChangeProofs.{Ends, ends}
 use Rattle.nl_tree.proofs.GraphProofs.{from_back, from_turned_all, reached-append, tail_eq, turned-append, turned_onto}
 use Rattle.nl_tree.proofs.TreeProofs.{path_eq, under_parts}
-use Rattle.nl_meta_running.specs.Running.{Runs, RunsOn, running_on, stored_on}
+use Rattle.nl_meta_running.specs.Running.{RunningIsRight, PreservesRunning, running_on, stored_on}
 use Rattle.nl_meta_running.proofs.Holds.{bounds-of}
 use Rattle.nl_namespace.specs.Changing.{Changes, FreeFits}
 use Rattle.nl_namespace.specs.Entering.{HasNamed, PutsIn, TakesOut}
-use Rattle.nl_namespace.specs.Finding.{FitsAfter, IsThere, MovesIn, place_of, renamed}
+use Rattle.nl_namespace.specs.Finding.{FitsAfter, NameIsThere, MovesIn, place_of, renamed}
 use Rattle.nl_namespace.specs.Moving.{CanTake, MovesName, refusal_over_record}
-use Rattle.nl_namespace.specs.Placing.{IsHeld, IsPlace}
+use Rattle.nl_namespace.specs.Placing.{DirectoryIsResident, IsPlaceOfPath}
 use Rattle.nl_namespace.specs.declared.finding.There.{There}
 use Rattle.nl_namespace.specs.declared.place.Place.{Place}
 use Rattle.nl_namespace.proofs.Chains.{then-graph, then-node, then-runs}
@@ -55,7 +55,7 @@ false-true : false ≡ true → ⊥
 false-true e = cc
 
 -- a directory that is held stays so
-pub held-stays : {D : Type 0} (g : Ghosts D) (s : D) (p q : Pages) (t u : D) (r : Pages) → RunsOn g t q u r → (n : ℕ) (rec : InodeRec) → IsHeld g s p q n rec → IsHeld g s p r n rec
+pub held-stays : {D : Type 0} (g : Ghosts D) (s : D) (p q : Pages) (t u : D) (r : Pages) → PreservesRunning g t q u r → (n : ℕ) (rec : InodeRec) → DirectoryIsResident g s p q n rec → DirectoryIsResident g s p r n rec
 held-stays g s p q t u r on n rec held =
     let own = only_own_pages rec (page_of q) (page_of r) (λ i h. on.stays (address_of_place rec i) (held.entries.directory.places.there i h)) in
     record {
@@ -87,12 +87,12 @@ same-parent p q x y e =
 
 -- ---- before the call
 
-module _ {D : Type 0} (g : Ghosts D) (s : D) (p : Pages) (volume : IsVolumeShape (g.shape s)) (runs : Runs g s p) (from to : List (List ℕ)) (old : There) (there : IsThere g s p from old) where
+module _ {D : Type 0} (g : Ghosts D) (s : D) (p : Pages) (volume : IsVolumeShape (g.shape s)) (runs : RunningIsRight g s p) (from to : List (List ℕ)) (old : There) (there : NameIsThere g s p from old) where
   abbrev graph : Graph
   graph = graph_of (g.shape s) (running_on g s p)
 
   -- nothing lies under a file
-  pub not-under-file : old.node.kind ≡ File → paths_eq from to ≡ false → (target : Place) → IsPlace g s p to target → is_at_or_under from to ≡ false
+  pub not-under-file : old.node.kind ≡ File → paths_eq from to ≡ false → (target : Place) → IsPlaceOfPath g s p to target → is_at_or_under from to ≡ false
   unfolding node_reached
   not-under-file file other target at = by (is_at_or_under from to) refl
     where
@@ -123,7 +123,7 @@ module _ {D : Type 0} (g : Ghosts D) (s : D) (p : Pages) (volume : IsVolumeShape
       by false e = e
       by true e = absurd (under (drop (length from) to) (ends (drop (length from) to)) (under_parts from to e))
 
-  pub apart-of : paths_eq from to ≡ false → (old.node.kind ≡ Dir → is_at_or_under from to ≡ false) → (target : Place) → IsPlace g s p to target → is_at_or_under from to ≡ false
+  pub apart-of : paths_eq from to ≡ false → (old.node.kind ≡ Dir → is_at_or_under from to ≡ false) → (target : Place) → IsPlaceOfPath g s p to target → is_at_or_under from to ≡ false
   apart-of other not-under target at = by old.node.kind refl
     where
       by : (k : Kind) → old.node.kind ≡ k → is_at_or_under from to ≡ false
@@ -133,8 +133,8 @@ module _ {D : Type 0} (g : Ghosts D) (s : D) (p : Pages) (volume : IsVolumeShape
 
 -- ---- the steps
 
-module _ {D : Type 0} (g : Ghosts D) (s : D) (p : Pages) (t : D) (q : Pages) (volume : IsVolumeShape (g.shape s)) (later : IsVolumeShape (g.shape t)) (runs : Runs g s p) (on : RunsOn g s p t q) (free : Spaces) (fits : FreeFits g s p free) (room : HasRoomFor 8 p) (from to : List (List ℕ))
-    (old : There) (there : IsThere g s p from old) (held : IsHeld g s p p old.dir old.rec) where
+module _ {D : Type 0} (g : Ghosts D) (s : D) (p : Pages) (t : D) (q : Pages) (volume : IsVolumeShape (g.shape s)) (later : IsVolumeShape (g.shape t)) (runs : RunningIsRight g s p) (on : PreservesRunning g s p t q) (free : Spaces) (fits : FreeFits g s p free) (room : HasRoomForDirty 8 p) (from to : List (List ℕ))
+    (old : There) (there : NameIsThere g s p from old) (held : DirectoryIsResident g s p p old.dir old.rec) where
   abbrev shape : Shape
   shape = g.shape t
 
@@ -150,10 +150,10 @@ module _ {D : Type 0} (g : Ghosts D) (s : D) (p : Pages) (t : D) (q : Pages) (vo
   abbrev over : Pages → Graph
   over r = graph_of shape (running_over device r)
 
-  at-later : IsPlace g t q from (place_of old)
+  at-later : IsPlaceOfPath g t q from (place_of old)
   at-later = placed-then g s p volume runs from (place_of old) there.place t q on
 
-  runs-later : Runs g t q
+  runs-later : RunningIsRight g t q
   runs-later = then-runs g s p t q volume on runs
 
   state : State shape device q free
@@ -170,7 +170,7 @@ module _ {D : Type 0} (g : Ghosts D) (s : D) (p : Pages) (t : D) (q : Pages) (vo
     there = λ i h. kept-there (address_of_place old.rec i) (held.entries.directory.places.there i h);
   }
 
-  held-target : (target : Place) → IsPlace g s p to target → IsHeld g s p q target.dir target.rec → Held shape device q target.dir target.rec
+  held-target : (target : Place) → IsPlaceOfPath g s p to target → DirectoryIsResident g s p q target.dir target.rec → Held shape device q target.dir target.rec
   held-target target at h = record {
     is_node = then-node g s p t q volume on target.dir target.rec at.is_node;
     is_dir = at.is_dir;
@@ -181,17 +181,17 @@ module _ {D : Type 0} (g : Ghosts D) (s : D) (p : Pages) (t : D) (q : Pages) (vo
   name-is : old.entry.name ≡ at-later.name
   name-is = entry-name g t q later runs-later from (place_of old) at-later old.entry refl
 
-  room-later : HasRoomFor 8 q
+  room-later : HasRoomForDirty 8 q
   room-later = let e = ap (λ (ds : List ℕ). length (besides_0 ds)) on.dirty in omega (arith, e, room)
 
   good : GoodEntry shape (running_over device q) old.entry
   good = listed-good shape device q free state n old.rec held-origin at-later.name old.entry at-later.entry
 
-  module _ (target : Place) (at : IsPlace g s p to target) (target-held : IsHeld g s p q target.dir target.rec) (apart : is_at_or_under from to ≡ false) where
+  module _ (target : Place) (at : IsPlaceOfPath g s p to target) (target-held : DirectoryIsResident g s p q target.dir target.rec) (apart : is_at_or_under from to ≡ false) where
     abbrev l : ℕ
     l = target.dir
 
-    at-target : IsPlace g t q to target
+    at-target : IsPlaceOfPath g t q to target
     at-target = placed-then g s p volume runs to target at t q on
 
     abbrev name_to : List ℕ
@@ -255,11 +255,11 @@ module _ {D : Type 0} (g : Ghosts D) (s : D) (p : Pages) (t : D) (q : Pages) (vo
             (moved-changes g t q later runs-later from to (place_of old) target at-later at-target old.entry refl apart bare q moves.between r free moves.free after 0 (omega arith) (absent-step shape device l name_to q none-there) state good takes puts))
 
   -- a file or an empty directory stands there
-  module _ (lost : There) (lost-there : IsThere g s p to lost) (lost-held : IsHeld g s p q lost.dir lost.rec) (apart : is_at_or_under from to ≡ false) where
+  module _ (lost : There) (lost-there : NameIsThere g s p to lost) (lost-held : DirectoryIsResident g s p q lost.dir lost.rec) (apart : is_at_or_under from to ≡ false) where
     abbrev place : Place
     place = place_of lost
 
-    abbrev at-lost : IsPlace g t q to place
+    abbrev at-lost : IsPlaceOfPath g t q to place
     at-lost = at-target place lost-there.place lost-held apart
 
     lost-name : lost.entry.name ≡ at-lost.name
@@ -286,7 +286,7 @@ module _ {D : Type 0} (g : Ghosts D) (s : D) (p : Pages) (t : D) (q : Pages) (vo
       origin1 : (rec : InodeRec) × Held shape device p1 n rec
       origin1 = held-then shape bounds device lost.dir at-lost.name q p1 free s1 state held-lost.is_node.below takes-over n old.rec held-origin
 
-      room1 : HasRoomFor 5 p1
+      room1 : HasRoomForDirty 5 p1
       room1 = let f = first.follows.few in let r = room-later in omega (arith, f, r)
 
       good1 : GoodEntry shape (running_over device p1) old.entry

@@ -12,7 +12,7 @@ use Rattle.nl_meta.specs.Pages.{Pages}
 use Rattle.nl_meta.specs.Running.{running_over}
 use Rattle.nl_meta.proofs.Lists.{member-find, some_in}
 use Rattle.nl_inode.specs.Nodes.{Spaces}
-use Rattle.nl_dir.specs.Directory.{HasRoomFor}
+use Rattle.nl_dir.specs.Directory.{HasRoomForDirty}
 use Rattle.nl_tree.specs.GraphLaws.{entry_at}
 use Rattle.nl_namespace.specs.Entering.{HasFreeAddress, HasNamed}
 use Rattle.nl_namespace.specs.Finding.{FitsAfter, renamed}
@@ -29,11 +29,11 @@ HasPlaceIn shape device p s n rec l =
 module _ (shape : Shape) (bounds : ShapeBounds shape) (device : VirtualMap) (n l : ℕ) (entry : EntryRec) (name_to : List ℕ) (differ : n ≡ l → entry.name ≢ name_to) (p : Pages) (s : Spaces) (state : State shape device p s) (rec : InodeRec) (held : Held shape device p n rec)
     (below : l < shape.nodes) where
   -- the entry can be taken out
-  pub origin-named : entry_at (graph_of shape (running_over device p)) n entry.name ≡ Some entry.ino → HasRoomFor 5 p → HasNamed n entry.name p s
+  pub origin-named : entry_at (graph_of shape (running_over device p)) n entry.name ≡ Some entry.ino → HasRoomForDirty 5 p → HasNamed n entry.name p s
   origin-named e room = named-fits shape bounds device p s state n rec held entry.name entry.ino e (omega (arith, room))
 
   -- the entry can be put in once it is taken out
-  pub fits-after : HasRoomFor 5 p → entry_at (graph_of shape (running_over device p)) l name_to ≡ None → HasPlaceIn shape device p s n rec l → FitsAfter n entry l name_to p s
+  pub fits-after : HasRoomForDirty 5 p → entry_at (graph_of shape (running_over device p)) l name_to ≡ None → HasPlaceIn shape device p s n rec l → FitsAfter n entry l name_to p s
   fits-after room none place q after takes =
       behind-fits shape bounds device q after state2 l ready.rec ready.held (renamed entry name_to) ready.few ready.address
       (step.elsewhere l name_to (λ e same. differ (sym e) (sym same)) ∙ none)

@@ -23,13 +23,13 @@ use Rattle.nl_tree.specs.declared.reply.Space.{Space}
 use Rattle.nl_meta.proofs.Lists.{none_some}
 use Rattle.nl_meta.proofs.PageProofs.{loaded}
 use Rattle.nl_meta_running.proofs.Kept.{loads-on}
-use Rattle.nl_meta_running.specs.Running.{Runs, RunsOn, running_on}
+use Rattle.nl_meta_running.specs.Running.{RunningIsRight, PreservesRunning, running_on}
 use Rattle.nl_namespace.specs.Changing.{Changes, FreeFits}
-use Rattle.nl_namespace.specs.Finding.{IsThere, place_of}
-use Rattle.nl_namespace.specs.Moving.{CanTake, CannotTake, HasPlaceTo, LacksPlace, LacksRoomIn, MovesName, MovesOrStays, is_directory_body, refusal_of_place, refusal_of_rename, refusal_over, refusal_over_record}
+use Rattle.nl_namespace.specs.Finding.{NameIsThere, place_of}
+use Rattle.nl_namespace.specs.Moving.{CanTake, CannotTake, HasRoomForMove, LacksRoomForMove, LacksRoomIn, MovesName, MovesOrStays, is_directory_body, refusal_of_place, refusal_of_rename, refusal_over, refusal_over_record}
 use Rattle.nl_namespace.specs.Naming.{body_at}
 use Rattle.nl_namespace.specs.Paths.{walk_refusal}
-use Rattle.nl_namespace.specs.Placing.{IsPlace}
+use Rattle.nl_namespace.specs.Placing.{IsPlaceOfPath}
 use Rattle.nl_namespace.specs.declared.finding.There.{There}
 use Rattle.nl_namespace.specs.declared.place.Place.{Place}
 use Rattle.nl_namespace.proofs.PointersStay.{tagged-read}
@@ -74,29 +74,29 @@ no-under pages rec Dir b not = not refl
 no-under pages rec File b not = refl
 no-under pages rec Unused b not = refl
 
-module _ {D : Type 0} (g : Ghosts D) (s : D) (p : Pages) (volume : IsVolumeShape (g.shape s)) (runs : Runs g s p) where
+module _ {D : Type 0} (g : Ghosts D) (s : D) (p : Pages) (volume : IsVolumeShape (g.shape s)) (runs : RunningIsRight g s p) where
   abbrev graph : Graph
   graph = graph_of (g.shape s) (running_on g s p)
 
-  body-there : (path : List (List ℕ)) (x : There) → IsThere g s p path x → body_at graph path ≡ body_of (running_on g s p) x.node x.node.kind
+  body-there : (path : List (List ℕ)) (x : There) → NameIsThere g s p path x → body_at graph path ≡ body_of (running_on g s p) x.node x.node.kind
   body-there path x at =
       ap (λ (o : Option ℕ). option_map_or (λ n. (graph n).body) o unused) (reached-is g s p volume runs path (place_of x) at.place)
       ∙ ap (λ (n : GraphNode). n.body) (graph-at (g.shape s) (running_on g s p) x.entry.ino x.node at.is_node.below at.is_node.spelled)
 
-  body-free : (path : List (List ℕ)) (place : Place) → IsPlace g s p path place → place.entry ≡ None → body_at graph path ≡ unused
+  body-free : (path : List (List ℕ)) (place : Place) → IsPlaceOfPath g s p path place → place.entry ≡ None → body_at graph path ≡ unused
   body-free path place at absent =
       ap (λ (o : Option ℕ). option_map_or (λ n. (graph n).body) o unused) (reached-is g s p volume runs path place at ∙ ap (option_map (λ (e : EntryRec). e.ino)) absent)
 
   -- nothing stands at the old path
-  pub missing-old : (from to : List (List ℕ)) (place : Place) → IsPlace g s p from place → place.entry ≡ None → is_too_long from ≡ false → is_too_long to ≡ false → is_root to ≡ false → refusal_of_rename graph from to ≡ Some Enoent
+  pub missing-old : (from to : List (List ℕ)) (place : Place) → IsPlaceOfPath g s p from place → place.entry ≡ None → is_too_long from ≡ false → is_too_long to ≡ false → is_root to ≡ false → refusal_of_rename graph from to ≡ Some Enoent
   missing-old from to place at absent short short_to not-root =
       rename-is graph from to false false true None (cond (paths_eq from to) None (refusal_of_place graph from to)) ((λ i. short i || short_to i)) ((λ i. not-root-path g s p volume runs from place at i || not-root i)) at.walked
       (ap is_none (reached-is g s p volume runs from place at ∙ ap (option_map (λ (e : EntryRec). e.ino)) absent)) refl
 
-  pub there-then : (t : D) (q : Pages) → RunsOn g s p t q → (path : List (List ℕ)) (x : There) → IsThere g s p path x → IsThere g t q path x
+  pub there-then : (t : D) (q : Pages) → PreservesRunning g s p t q → (path : List (List ℕ)) (x : There) → NameIsThere g s p path x → NameIsThere g t q path x
   there-then t q on path x there = record { place = placed-then g s p volume runs path (place_of x) there.place t q on; is_node = then-node g s p t q volume on x.entry.ino x.node there.is_node }
 
-  module _ (from to : List (List ℕ)) (old : There) (there : IsThere g s p from old) (short : is_too_long from ≡ false) (short_to : is_too_long to ≡ false) (not-root : is_root to ≡ false) where
+  module _ (from to : List (List ℕ)) (old : There) (there : NameIsThere g s p from old) (short : is_too_long from ≡ false) (short_to : is_too_long to ≡ false) (not-root : is_root to ≡ false) where
     -- a node that is there has only the new path to ask about
     found-old : (r : Option Refusal) → cond (paths_eq from to) None (refusal_of_place graph from to) ≡ r → refusal_of_rename graph from to ≡ r
     found-old r e =
@@ -124,11 +124,11 @@ module _ {D : Type 0} (g : Ghosts D) (s : D) (p : Pages) (volume : IsVolumeShape
         pub walk-refused : (r : Refusal) → walk_refusal graph 0 to ≡ Some r → refusal_of_rename graph from to ≡ Some r
         walk-refused r e = other-path (Some r) (place-is graph from to false (Some r) (refusal_over (body_at graph from) (body_at graph to)) fits-under e refl)
 
-        pub free-unrefused : (place : Place) → IsPlace g s p to place → place.entry ≡ None → refusal_of_rename graph from to ≡ None
+        pub free-unrefused : (place : Place) → IsPlaceOfPath g s p to place → place.entry ≡ None → refusal_of_rename graph from to ≡ None
         free-unrefused place at absent =
             other-path None (place-is graph from to false None None fits-under at.walked (ap (refusal_over (body_at graph from)) (body-free to place at absent) ∙ over-nothing (body_at graph from)))
 
-        pub over-refused : (lost : There) → IsThere g s p to lost → refusal_of_rename graph from to ≡ refusal_over_record old.node.kind lost.node.kind lost.node.size
+        pub over-refused : (lost : There) → NameIsThere g s p to lost → refusal_of_rename graph from to ≡ refusal_over_record old.node.kind lost.node.kind lost.node.size
         over-refused lost at =
             other-path (refusal_over_record old.node.kind lost.node.kind lost.node.size)
             (place-is graph from to false None (refusal_over_record old.node.kind lost.node.kind lost.node.size) fits-under at.place.walked
@@ -138,7 +138,7 @@ module _ {D : Type 0} (g : Ghosts D) (s : D) (p : Pages) (volume : IsVolumeShape
             ∙ one-of (refusal_over_record old.node.kind lost.node.kind lost.node.size))
 
       -- nothing stands at the new path, and its directory has no room
-      pub lacks-place : (free : Spaces) (place : Place) (at : IsPlace g s p to place) → is_at_or_under from to ≡ false → place.entry ≡ None → (space : Space) → LacksRoomIn free old.dir old.rec.size place.dir place.rec.size space → LacksPlace free graph from to (Enospc space)
+      pub lacks-place : (free : Spaces) (place : Place) (at : IsPlaceOfPath g s p to place) → is_at_or_under from to ≡ false → place.entry ≡ None → (space : Space) → LacksRoomIn free old.dir old.rec.size place.dir place.rec.size space → LacksRoomForMove free graph from to (Enospc space)
       lacks-place free place at apart absent space lacks = record {
         n = old.dir;
         l = place.dir;
@@ -155,7 +155,7 @@ module _ {D : Type 0} (g : Ghosts D) (s : D) (p : Pages) (volume : IsVolumeShape
       }
 
       -- nothing stands at the new path, and its directory has room
-      pub has-place-to : (free : Spaces) (place : Place) (at : IsPlace g s p to place) → CanTake free old.dir old.rec.size place.dir place.rec.size → HasPlaceTo free graph from to
+      pub has-place-to : (free : Spaces) (place : Place) (at : IsPlaceOfPath g s p to place) → CanTake free old.dir old.rec.size place.dir place.rec.size → HasRoomForMove free graph from to
       has-place-to free place at can = record {
         n = old.dir;
         l = place.dir;
@@ -168,7 +168,7 @@ module _ {D : Type 0} (g : Ghosts D) (s : D) (p : Pages) (volume : IsVolumeShape
       }
 
       -- or something stands there
-      pub over-place-to : (free : Spaces) (lost : There) → IsThere g s p to lost → HasPlaceTo free graph from to
+      pub over-place-to : (free : Spaces) (lost : There) → NameIsThere g s p to lost → HasRoomForMove free graph from to
       over-place-to free lost at = record {
         n = old.dir;
         l = lost.dir;
@@ -193,7 +193,7 @@ moves-other old new from to gone e m = if-false (paths_eq from to) ((gone ≡ No
 pub stays-one : (old new : Graph) (from to : List (List ℕ)) (gone : Option ℕ) → gone ≡ None → paths_eq from to ≡ true → new ≡ old → MovesOrStays old new from to gone
 stays-one old new from to gone none e same = if-true (paths_eq from to) ((gone ≡ None) × (new ≡ old)) (MovesName old new from to gone) e (none, same)
 
-pub no-other-path : (free : Spaces) (graph : Graph) (from to : List (List ℕ)) → paths_eq from to ≡ true → paths_eq from to ≡ false → HasPlaceTo free graph from to
+pub no-other-path : (free : Spaces) (graph : Graph) (from to : List (List ℕ)) → paths_eq from to ≡ true → paths_eq from to ≡ false → HasRoomForMove free graph from to
 no-other-path free graph from to e far = absurd (true-false (sym e ∙ far))
   where
     true-false : true ≡ false → ⊥
@@ -201,7 +201,7 @@ no-other-path free graph from to e far = absurd (true-false (sym e ∙ far))
 
 -- ---- nothing changed
 
-pub kept-changes : {D : Type 0} (g : Ghosts D) (s : D) (p : Pages) (t : D) (q : Pages) → IsVolumeShape (g.shape s) → Runs g s p → RunsOn g s p t q → (free : Spaces) → FreeFits g s p free → Changes g s p t q free None
+pub kept-changes : {D : Type 0} (g : Ghosts D) (s : D) (p : Pages) (t : D) (q : Pages) → IsVolumeShape (g.shape s) → RunningIsRight g s p → PreservesRunning g s p t q → (free : Spaces) → FreeFits g s p free → Changes g s p t q free None
 kept-changes g s p t q volume runs on free fits = record {
   reads = on.reads;
   frozen = on.frozen;
@@ -213,5 +213,5 @@ kept-changes g s p t q volume runs on free fits = record {
   pointers = tagged-read g s p t q volume on;
 }
   where
-    later : Runs g t q
+    later : RunningIsRight g t q
     later = then-runs g s p t q volume on runs

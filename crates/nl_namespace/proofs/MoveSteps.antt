@@ -10,7 +10,7 @@ use Rattle.nl_field.specs.declared.inode.Kind.TheVariants.{Dir, File}
 use Rattle.nl_field.specs.declared.shape.Shape.{Shape}
 use Rattle.nl_iface.specs.Device.{IsVolumeShape}
 use Rattle.nl_iface.specs.declared.counts.Counts.{Ghosts}
-use Rattle.nl_inode.specs.FreeLaws.{Uses}
+use Rattle.nl_inode.specs.FreeLaws.{UsesAddress}
 use Rattle.nl_inode.specs.Nodes.{Spaces}
 use Rattle.nl_meta.specs.Committed.{VirtualMap}
 use Rattle.nl_meta.specs.Consistent.{GoodEntry, IsNode}
@@ -23,13 +23,13 @@ use Rattle.nl_tree.specs.GraphLaws.{NamedOnce, entry_at}
 use Rattle.nl_tree.specs.Tree.{is_at_or_under}
 use Rattle.nl_tree.proofs.GraphProofs.{one_path_to}
 use Rattle.nl_tree.proofs.TreeProofs.{under_append}
-use Rattle.nl_meta_running.specs.Running.{IsNeeded, IsNodeOf, Runs, stored_on}
+use Rattle.nl_meta_running.specs.Running.{IsNeeded, IsNodeOf, RunningIsRight, stored_on}
 use Rattle.nl_meta_running.proofs.Holds.{bounds-of, reads-none}
 use Rattle.nl_namespace.specs.Changing.{Changes, EntriesBut, FileStays}
 use Rattle.nl_namespace.specs.Entering.{PutsIn, TakesOut}
 use Rattle.nl_namespace.specs.Finding.{renamed}
 use Rattle.nl_namespace.specs.Moving.{MovesName}
-use Rattle.nl_namespace.specs.Placing.{IsPlace}
+use Rattle.nl_namespace.specs.Placing.{IsPlaceOfPath}
 use Rattle.nl_namespace.specs.declared.place.Place.{Place}
 use Rattle.nl_namespace.proofs.DirectorySteps.{dir-entry, dir-node}
 use Rattle.nl_tree.specs.Represents.{node_of}
@@ -52,7 +52,7 @@ differ-by-path graph once from to path path_to n l name name_to split split_to a
     false-true : false ≡ true → ⊥
     false-true e = cc
 
-module _ {D : Type 0} (g : Ghosts D) (s : D) (p : Pages) (volume : IsVolumeShape (g.shape s)) (runs : Runs g s p) (from to : List (List ℕ)) (origin target : Place) (at : IsPlace g s p from origin) (at_to : IsPlace g s p to target)
+module _ {D : Type 0} (g : Ghosts D) (s : D) (p : Pages) (volume : IsVolumeShape (g.shape s)) (runs : RunningIsRight g s p) (from to : List (List ℕ)) (origin target : Place) (at : IsPlaceOfPath g s p from origin) (at_to : IsPlaceOfPath g s p to target)
     (entry : EntryRec) (stands : origin.entry ≡ Some entry) (apart : is_at_or_under from to ≡ false) where
   abbrev shape : Shape
   shape = g.shape s
@@ -170,18 +170,18 @@ module _ {D : Type 0} (g : Ghosts D) (s : D) (p : Pages) (volume : IsVolumeShape
             let listed = entry-listed shape (running_over device p) l j name_to e in
             subst (λ (i : ℕ). i < shape.nodes) listed.3 ((lists g s p runs).good l listed.0 listed.1).is_node.below
 
-    needs : (b : ℕ) → Uses shape (running_over device q) b → Uses shape (running_over device p) b ⊎ IsSome (page_of q b)
+    needs : (b : ℕ) → UsesAddress shape (running_over device q) b → UsesAddress shape (running_over device p) b ⊎ IsSome (page_of q b)
     needs b u = by3 (third.needs b u)
       where
-        by1 : Uses shape (running_over device p) b ⊎ IsSome (page_of p1 b) → Uses shape (running_over device p) b ⊎ IsSome (page_of q b)
+        by1 : UsesAddress shape (running_over device p) b ⊎ IsSome (page_of p1 b) → UsesAddress shape (running_over device p) b ⊎ IsSome (page_of q b)
         by1 (inl v) = inl v
         by1 (inr h) = inr (third.follows.there b (second.follows.there b h))
 
-        by2 : Uses shape (running_over device p1) b ⊎ IsSome (page_of p2 b) → Uses shape (running_over device p) b ⊎ IsSome (page_of q b)
+        by2 : UsesAddress shape (running_over device p1) b ⊎ IsSome (page_of p2 b) → UsesAddress shape (running_over device p) b ⊎ IsSome (page_of q b)
         by2 (inl v) = by1 (first.needs b v)
         by2 (inr h) = inr (third.follows.there b h)
 
-        by3 : Uses shape (running_over device p2) b ⊎ IsSome (page_of q b) → Uses shape (running_over device p) b ⊎ IsSome (page_of q b)
+        by3 : UsesAddress shape (running_over device p2) b ⊎ IsSome (page_of q b) → UsesAddress shape (running_over device p) b ⊎ IsSome (page_of q b)
         by3 (inl v) = by2 (second.needs b v)
         by3 (inr h) = inr h
 
@@ -220,7 +220,7 @@ module _ {D : Type 0} (g : Ghosts D) (s : D) (p : Pages) (volume : IsVolumeShape
         absent v (inl e) gone = runs.absent v (inl e) (gone-before device p q (count + 3 + 2) follows v gone)
         absent v (inr u) gone = by (needs v u)
           where
-            by : Uses shape (running_over device p) v ⊎ IsSome (page_of q v) → g.tells
+            by : UsesAddress shape (running_over device p) v ⊎ IsSome (page_of q v) → g.tells
             by (inl w) = runs.absent v (inr w) (gone-before device p q (count + 3 + 2) follows v gone)
             by (inr h) = absurd (not-there (sym (ap is_some gone) ∙ h))
               where

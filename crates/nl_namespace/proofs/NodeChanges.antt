@@ -20,7 +20,7 @@ use Rattle.nl_meta.specs.Consistent.{AddressAt, AddressesRight, GoodAddress, IsN
 use Rattle.nl_meta.specs.Nodes.{address_of_place, body_of, bytes_of_node, graph_of, inode_at, node_from, pointers_at, pointers_of_inode, slots_of}
 use Rattle.nl_meta.proofs.AddressProofs.{filled_of, inode_spelled}
 use Rattle.nl_meta.proofs.Lists.{some_in}
-use Rattle.nl_inode.specs.FreeLaws.{Uses}
+use Rattle.nl_inode.specs.FreeLaws.{UsesAddress}
 use Rattle.nl_dir.specs.AfterLaws.{HasAddress}
 use Rattle.nl_dir.specs.Directory.{IsDirectory}
 use Rattle.nl_dir.specs.DirectoryLaws.{OwnPages}
@@ -191,7 +191,7 @@ module _ (shape : Shape) (bounds : ShapeBounds shape) (old new : VirtualMap) (d 
           let was = node-back shape bounds old new d change.same n rec far node in
           (own-other shape bounds old new d change.same n rec far was dir).directory (formed.directories n rec was dir)
 
-  pub uses-then : (a : ℕ) → Uses shape new a → ((slot : ℕ) × HasAddress is slot a) ⊎ ((k : ℕ) × (slot : ℕ) × (k ≢ d) × AddressAt shape old k slot a)
+  pub uses-then : (a : ℕ) → UsesAddress shape new a → ((slot : ℕ) × HasAddress is slot a) ⊎ ((k : ℕ) × (slot : ℕ) × (k ≢ d) × AddressAt shape old k slot a)
   uses-then a u = by (cases_eq u.0 d)
     where
       by : (u.0 ≡ d) ⊎ (u.0 ≡ d → ⊥) → ((slot : ℕ) × HasAddress is slot a) ⊎ ((k : ℕ) × (slot : ℕ) × (k ≢ d) × AddressAt shape old k slot a)

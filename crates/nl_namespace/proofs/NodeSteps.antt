@@ -23,7 +23,7 @@ use Rattle.nl_meta.specs.Running.{running_over}
 use Rattle.nl_meta.proofs.Lists.{member-append, member-flat, none_some, some_in}
 use Rattle.nl_meta.proofs.SlotProofs.{one_slot}
 use Rattle.nl_inode.specs.Free.{is_free}
-use Rattle.nl_inode.specs.FreeLaws.{NodeIs, PoolIsFree, Uses}
+use Rattle.nl_inode.specs.FreeLaws.{NodeIs, PoolIsFree, UsesAddress}
 use Rattle.nl_inode.specs.Nodes.{NodeBecomes, PutsNode, Spaces, is_free_address, page_of_node, taken_as}
 use Rattle.nl_inode.proofs.FreeProofs.{free_is_unused}
 use Rattle.nl_dir.specs.AfterLaws.{HasAddress}
@@ -189,17 +189,17 @@ module _ (shape : Shape) (bounds : ShapeBounds shape) (device : VirtualMap) (n :
       of File = refl
       of Dir = ap (λ (es : List EntryRec). node_named x (map (λ e. (e.name, e.ino)) es)) (no-entries two kind generation)
 
-  pub new-uses : (b : ℕ) → Uses shape two b ↔ Uses shape one b
+  pub new-uses : (b : ℕ) → UsesAddress shape two b ↔ UsesAddress shape one b
   new-uses b = (forth, back)
     where
-      forth : Uses shape two b → Uses shape one b
+      forth : UsesAddress shape two b → UsesAddress shape one b
       forth u = by (uses-then shape bounds one two n is change state.formed b u)
         where
-          by : ((slot : ℕ) × HasAddress is slot b) ⊎ ((k : ℕ) × (slot : ℕ) × (k ≢ n) × AddressAt shape one k slot b) → Uses shape one b
+          by : ((slot : ℕ) × HasAddress is slot b) ⊎ ((k : ℕ) × (slot : ℕ) × (k ≢ n) × AddressAt shape one k slot b) → UsesAddress shape one b
           by (inl x) = absurd (none-has x.0 b x.1)
           by (inr x) = (x.0, x.1, x.3)
 
-      back : Uses shape one b → Uses shape two b
+      back : UsesAddress shape one b → UsesAddress shape two b
       back u = (u.0, u.1, address-other shape bounds one two n same u.0 u.1 b (λ e. unused u.2.rec (subst (λ (k : ℕ). IsNode shape one k u.2.rec) e u.2.is_node)) u.2)
 
   good : AllGood shape two

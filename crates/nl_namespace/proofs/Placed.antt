@@ -9,19 +9,19 @@ use Rattle.nl_iface.specs.declared.counts.Counts.{Ghosts}
 use Rattle.nl_meta.specs.Nodes.{entry_named}
 use Rattle.nl_meta.specs.Pages.{Pages}
 use Rattle.nl_tree.specs.declared.reply.Refusal.TheVariants.{Enotdir}
-use Rattle.nl_meta_running.specs.Running.{IsNodeOf, RunsOn, running_on}
+use Rattle.nl_meta_running.specs.Running.{IsNodeOf, PreservesRunning, running_on}
 use Rattle.nl_meta_running.proofs.Holds.{bounds-of}
 use Rattle.nl_meta_running.proofs.SameNeeded.{own}
 use Rattle.nl_namespace.specs.Naming.{NameIn}
 use Rattle.nl_namespace.specs.Paths.{onward, walk_refusal}
-use Rattle.nl_namespace.specs.Placing.{EntersAt, IsHeld, IsParentAt, IsPlace}
+use Rattle.nl_namespace.specs.Placing.{EntersAt, DirectoryIsResident, IsParentAt, IsPlaceOfPath}
 use Rattle.nl_namespace.specs.declared.place.Place.{Place}
 use Rattle.nl_namespace.proofs.Chains.{node-before}
 use Rattle.nl_namespace.proofs.Entries.{has-before}
 use Rattle.nl_namespace.proofs.Graphs.{graph, refused-by, refused-file}
 
-module _ {D : Type 0} (g : Ghosts D) (s : D) (p : Pages) (t : D) (q : Pages) (shape : IsVolumeShape (g.shape s)) (on : RunsOn g s p t q) (path : List (List ℕ)) (n : ℕ) (parent : IsParentAt g s p path n) where
-  pub placed-at : (name : List ℕ) (place : Place) → name ≡ parent.name → EntersAt g t q n name place → IsPlace g s p path place
+module _ {D : Type 0} (g : Ghosts D) (s : D) (p : Pages) (t : D) (q : Pages) (shape : IsVolumeShape (g.shape s)) (on : PreservesRunning g s p t q) (path : List (List ℕ)) (n : ℕ) (parent : IsParentAt g s p path n) where
+  pub placed-at : (name : List ℕ) (place : Place) → name ≡ parent.name → EntersAt g t q n name place → IsPlaceOfPath g s p path place
   unfolding entry_named walk_refusal
   placed-at name place same enters = record {
     name = parent.name;
@@ -47,7 +47,7 @@ module _ {D : Type 0} (g : Ghosts D) (s : D) (p : Pages) (t : D) (q : Pages) (sh
   pub file-spot : (rec : InodeRec) → IsNodeOf g t q n rec → rec.kind ≡ File → walk_refusal (graph g s p) 0 path ≡ Some Enotdir
   file-spot rec is file = parent.walked ∙ refused-file g s p n parent.name rec (node-before g s p t q shape on n rec is) file []
 
-  pub held-before : (name : List ℕ) (place : Place) (r : Pages) → EntersAt g t q n name place → IsHeld g t q r place.dir place.rec → IsHeld g s p r place.dir place.rec
+  pub held-before : (name : List ℕ) (place : Place) (r : Pages) → EntersAt g t q n name place → DirectoryIsResident g t q r place.dir place.rec → DirectoryIsResident g s p r place.dir place.rec
   held-before name place r enters held = record {
     node = held.node;
     entries = has-before g s p t q (bounds-of (g.shape s) shape) on n place.rec (node-before g s p t q shape on n place.rec enters.is_node) enters.is_dir r held.entries;

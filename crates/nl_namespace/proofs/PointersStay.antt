@@ -17,7 +17,7 @@ use Rattle.nl_meta.specs.Pages.{Pages}
 use Rattle.nl_meta.specs.PointerLists.{tagged_in, with_tag}
 use Rattle.nl_tree.specs.Represents.{node_of}
 use Rattle.nl_tree.specs.Tree.{Node, directory, file}
-use Rattle.nl_meta_running.specs.Running.{RunsOn, running_on}
+use Rattle.nl_meta_running.specs.Running.{PreservesRunning, running_on}
 use Rattle.nl_namespace.specs.Making.{empty_node}
 use Rattle.nl_namespace.proofs.Chains.{then-graph}
 
@@ -89,5 +89,5 @@ unfolding pointers_of
 tagged-same shape old new same = ap (map with_tag) (flat-same (λ k. held_by k (graph_of shape old k)) (λ k. held_by k (graph_of shape new k)) same 0 shape.nodes)
 
 -- pages were read
-pub tagged-read : {D : Type 0} (g : Ghosts D) (s : D) (p : Pages) (t : D) (q : Pages) → IsVolumeShape (g.shape s) → RunsOn g s p t q → tagged_in (g.shape t) (running_on g t q) ≡ tagged_in (g.shape s) (running_on g s p)
+pub tagged-read : {D : Type 0} (g : Ghosts D) (s : D) (p : Pages) (t : D) (q : Pages) → IsVolumeShape (g.shape s) → PreservesRunning g s p t q → tagged_in (g.shape t) (running_on g t q) ≡ tagged_in (g.shape s) (running_on g s p)
 tagged-read g s p t q volume on = λ i. map with_tag (pointers_of (on.reads.medium.virtual.same_shape i) (then-graph g s p t q volume on i))

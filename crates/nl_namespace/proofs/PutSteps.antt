@@ -19,7 +19,7 @@ use Rattle.nl_meta.specs.Pages.{Pages, besides_0, page_of, with_address}
 use Rattle.nl_meta.specs.Steps as steps
 use Rattle.nl_meta.specs.Running.{running_over}
 use Rattle.nl_meta.proofs.Lists.{none_some, some_in}
-use Rattle.nl_inode.specs.FreeLaws.{PoolIsFree, Uses}
+use Rattle.nl_inode.specs.FreeLaws.{PoolIsFree, UsesAddress}
 use Rattle.nl_inode.specs.Nodes.{PutsNode, Spaces, is_free_address, page_of_node}
 use Rattle.nl_inode.proofs.FreeProofs.{free_is_unused}
 use Rattle.nl_inode.proofs.PageProofs.{put_changes}
@@ -34,7 +34,7 @@ use Rattle.nl_dir.proofs.PlaceFacts.{below-length, one-dirtier, one-page}
 use Rattle.nl_dir.proofs.Records.{SpelledDir, new-address, none-fits, spelled-dir}
 use Rattle.nl_meta_running.proofs.SameNeeded.{slot-filled}
 use Rattle.nl_tree.specs.GraphLaws.{entry_at}
-use Rattle.nl_namespace.specs.Entering.{PutsIn, Takes}
+use Rattle.nl_namespace.specs.Entering.{PutsIn, TakesAddress}
 use Rattle.nl_namespace.proofs.DirectoryChanges.{DirStep, IsNew, has-or-not, over-there}
 use Rattle.nl_namespace.proofs.DirectorySteps.{change, entry-after, entry-before, good-after, graph-stays, is-after, node-stays, nodes-after, uses-from, uses-here, uses-to}
 use Rattle.nl_namespace.proofs.NodeChanges.{formed-then, node-back}
@@ -50,7 +50,7 @@ more-dirty (v ∷ vs) dirty =
     let m = one-dirtier v dirty in
     omega (arith, r, m)
 
-pub follows-pages : (device : VirtualMap) (changed : List ℕ) (p q : Pages) → ChangesPages changed p q → steps.ChangesPages p q → Follows device p q (length changed)
+pub follows-pages : (device : VirtualMap) (changed : List ℕ) (p q : Pages) → ChangesPages changed p q → steps.ChangesRunningPages p q → Follows device p q (length changed)
 follows-pages device changed p q changes kept = record {
   there = λ v h. there v h (has-or-not changed v);
   frozen = changes.frozen;
@@ -111,7 +111,7 @@ module _ (shape : Shape) (bounds : ShapeBounds shape) (device : VirtualMap) (d :
   is-node = record { below = below; spelled = node-over device p d puts.has.node_there ∙ puts.has.spelled; used = dir-used rec.kind puts.has.directory.places.is_dir }
 
   taken-new : (a : ℕ) → puts.fresh ≡ Some a → IsNew shape one a
-  taken-new a e = let h = subst (λ (o : Option ℕ). Takes o s t) e puts.takes in is-new shape bounds device p s state a h.0
+  taken-new a e = let h = subst (λ (o : Option ℕ). TakesAddress o s t) e puts.takes in is-new shape bounds device p s state a h.0
 
   new-page : (a : ℕ) → puts.fresh ≡ Some a → address_of_place is rec.size ≡ a
   new-page a e = ap (λ (o : Option ℕ). address_of_place (longer rec o) rec.size) e ∙ new-address rec a rec.size spelled puts.few refl
@@ -189,24 +189,24 @@ module _ (shape : Shape) (bounds : ShapeBounds shape) (device : VirtualMap) (d :
   pub put-was : IsNode shape one d rec
   put-was = is-node
 
-  same-uses : (b : ℕ) → puts.fresh ≢ Some b → Uses shape two b ↔ Uses shape one b
+  same-uses : (b : ℕ) → puts.fresh ≢ Some b → UsesAddress shape two b ↔ UsesAddress shape one b
   same-uses b off = (there, back)
     where
-      there : Uses shape two b → Uses shape one b
+      there : UsesAddress shape two b → UsesAddress shape one b
       there u = by (uses-from shape bounds device d rec is changed p puts.between q (rec.size / 64) step b u)
         where
-          had : (k : ℕ) → HasAddress rec k b ⊎ ((puts.fresh ≡ Some b) × (k ≡ rec.size / 64)) → Uses shape one b
+          had : (k : ℕ) → HasAddress rec k b ⊎ ((puts.fresh ≡ Some b) × (k ≡ rec.size / 64)) → UsesAddress shape one b
           had k (inl x) = (d, k, record { rec = rec; is_node = is-node; in_slot = x.0; not_zero = x.1 })
           had k (inr x) = absurd (off x.0)
 
-          by : ((k : ℕ) × HasAddress is k b) ⊎ ((k : ℕ) × (slot : ℕ) × (k ≢ d) × AddressAt shape one k slot b) → Uses shape one b
+          by : ((k : ℕ) × HasAddress is k b) ⊎ ((k : ℕ) × (slot : ℕ) × (k ≢ d) × AddressAt shape one k slot b) → UsesAddress shape one b
           by (inl x) = had x.0 ((after.inserted p puts.fresh puts.fits puts.few x.0 b).0 x.1)
           by (inr x) = (x.0, x.1, x.3)
 
-      back : Uses shape one b → Uses shape two b
+      back : UsesAddress shape one b → UsesAddress shape two b
       back u = by (uses-to shape bounds device d rec is changed p puts.between q (rec.size / 64) step b u)
         where
-          by : ((k : ℕ) × HasAddress rec k b) ⊎ Uses shape two b → Uses shape two b
+          by : ((k : ℕ) × HasAddress rec k b) ⊎ UsesAddress shape two b → UsesAddress shape two b
           by (inl x) = uses-here shape bounds device d rec is changed p puts.between q (rec.size / 64) step x.0 b ((after.inserted p puts.fresh puts.fits puts.few x.0 b).1 (inl x.1))
           by (inr x) = x
 
@@ -215,7 +215,7 @@ module _ (shape : Shape) (bounds : ShapeBounds shape) (device : VirtualMap) (d :
     where
       by : (o : Option ℕ) → puts.fresh ≡ o → PoolIsFree shape two t
       by None e =
-          let same : t ≡ s = subst (λ (o : Option ℕ). Takes o s t) e puts.takes in
+          let same : t ≡ s = subst (λ (o : Option ℕ). TakesAddress o s t) e puts.takes in
           let off : (b : ℕ) → puts.fresh ≢ Some b = λ b f. none_some b (sym e ∙ f) in
           subst (PoolIsFree shape two) (sym same) (record {
             first = state.pool.first;
@@ -225,7 +225,7 @@ module _ (shape : Shape) (bounds : ShapeBounds shape) (device : VirtualMap) (d :
             );
           })
       by (Some a) e =
-          let h = subst (λ (o : Option ℕ). Takes o s t) e puts.takes in
+          let h = subst (λ (o : Option ℕ). TakesAddress o s t) e puts.takes in
           let new = taken-new a e in
           let f = state.pool.first in
           let g = new.from_pool in
@@ -236,15 +236,15 @@ module _ (shape : Shape) (bounds : ShapeBounds shape) (device : VirtualMap) (d :
   nodes-same = by puts.fresh refl
     where
       by : (o : Option ℕ) → puts.fresh ≡ o → t.nodes ≡ s.nodes
-      by None e = ap (λ (x : Spaces). x.nodes) (subst (λ (o : Option ℕ). Takes o s t) e puts.takes)
-      by (Some a) e = (subst (λ (o : Option ℕ). Takes o s t) e puts.takes).1.nodes
+      by None e = ap (λ (x : Spaces). x.nodes) (subst (λ (o : Option ℕ). TakesAddress o s t) e puts.takes)
+      by (Some a) e = (subst (λ (o : Option ℕ). TakesAddress o s t) e puts.takes).1.nodes
 
   pool-count : length t.pool ≡ length s.pool
   pool-count = by puts.fresh refl
     where
       by : (o : Option ℕ) → puts.fresh ≡ o → length t.pool ≡ length s.pool
-      by None e = ap (λ (x : Spaces). length x.pool) (subst (λ (o : Option ℕ). Takes o s t) e puts.takes)
-      by (Some a) e = (subst (λ (o : Option ℕ). Takes o s t) e puts.takes).1.pool.count
+      by None e = ap (λ (x : Spaces). length x.pool) (subst (λ (o : Option ℕ). TakesAddress o s t) e puts.takes)
+      by (Some a) e = (subst (λ (o : Option ℕ). TakesAddress o s t) e puts.takes).1.pool.count
 
   pub put-state : GoodEntry shape one entry → State shape device q t
   put-state good = record {
@@ -262,15 +262,15 @@ module _ (shape : Shape) (bounds : ShapeBounds shape) (device : VirtualMap) (d :
       lists e (inr same) = inr (subst (GoodEntry shape one) (sym same) good)
 
   -- a page that is needed was so before, or is resident
-  pub put-needs : (b : ℕ) → Uses shape two b → Uses shape one b ⊎ IsSome (page_of q b)
+  pub put-needs : (b : ℕ) → UsesAddress shape two b → UsesAddress shape one b ⊎ IsSome (page_of q b)
   put-needs b u = by puts.fresh refl
     where
-      new : (a : ℕ) → puts.fresh ≡ Some a → (a ≡ b) ⊎ (a ≡ b → ⊥) → Uses shape one b ⊎ IsSome (page_of q b)
+      new : (a : ℕ) → puts.fresh ≡ Some a → (a ≡ b) ⊎ (a ≡ b → ⊥) → UsesAddress shape one b ⊎ IsSome (page_of q b)
       new a e (inl h) =
           let there = puts.inserts.pages.there a (inl (new-page a e)) in
           inr (subst (λ (v : ℕ). IsSome (page_of q v)) h ((follows-node device d is puts.between q (put-first.there (page_of_node d) puts.has.node_there) puts.puts).there a there))
       new a e (inr far) = inl ((same-uses b (λ z. far (some_in a b (sym e ∙ z)))).0 u)
 
-      by : (o : Option ℕ) → puts.fresh ≡ o → Uses shape one b ⊎ IsSome (page_of q b)
+      by : (o : Option ℕ) → puts.fresh ≡ o → UsesAddress shape one b ⊎ IsSome (page_of q b)
       by None e = inl ((same-uses b (λ z. none_some b (sym e ∙ z))).0 u)
       by (Some a) e = new a e (cases_eq a b)

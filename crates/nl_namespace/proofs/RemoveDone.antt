@@ -14,7 +14,7 @@ use Rattle.nl_meta.specs.Nodes.{address_of_place, body_of, entries_of_inode, ent
 use Rattle.nl_meta.specs.Pages.{Pages, besides_0, page_of}
 use Rattle.nl_meta.proofs.Lists.{member-find}
 use Rattle.nl_inode.specs.Nodes.{Spaces, page_of_node}
-use Rattle.nl_dir.specs.Directory.{HasRoomFor}
+use Rattle.nl_dir.specs.Directory.{HasRoomForDirty}
 use Rattle.nl_dir.proofs.EntryLists.{named-same}
 use Rattle.nl_dir.proofs.LawProofs.{entries_in_order}
 use Rattle.nl_tree.specs.Represents.{node_reached}
@@ -22,13 +22,13 @@ use Rattle.nl_tree.specs.Step.{first_of, is_too_long, when}
 use Rattle.nl_tree.specs.Tree.{is_root}
 use Rattle.nl_tree.specs.declared.reply.Refusal.{Refusal}
 use Rattle.nl_tree.specs.declared.reply.Refusal.TheVariants.{Enametoolong, Enoent, Enotempty}
-use Rattle.nl_meta_running.specs.Running.{IsNodeOf, IsUsed, Runs, RunsOn, running_on}
+use Rattle.nl_meta_running.specs.Running.{IsNodeOf, IsUsedNode, RunningIsRight, PreservesRunning, running_on}
 use Rattle.nl_meta_running.proofs.Holds.{bounds-of}
 use Rattle.nl_namespace.specs.Changing.{Changes, FreeFits}
 use Rattle.nl_namespace.specs.Entering.{HasNamed, TakesOut}
 use Rattle.nl_namespace.specs.Naming.{LosesName, body_at, refusal_of_kind, refusal_of_record, refusal_of_removal, root_refusal}
 use Rattle.nl_namespace.specs.Paths.{walk_refusal}
-use Rattle.nl_namespace.specs.Placing.{IsHeld, IsPlace}
+use Rattle.nl_namespace.specs.Placing.{DirectoryIsResident, IsPlaceOfPath}
 use Rattle.nl_namespace.specs.declared.place.Place.{Place}
 use Rattle.nl_namespace.proofs.Chains.{then-graph, then-node, then-runs}
 use Rattle.nl_namespace.proofs.Graphs.{entry-used}
@@ -81,7 +81,7 @@ bare-of Dir Dir size used there e = by (nat_lt 0 size) refl e
     by true f e = absurd (none e)
     by false f e = let h = ltb-false 0 size f in inr (refl, omega (arith, h))
 
-module _ {D : Type 0} (g : Ghosts D) (s : D) (p : Pages) (volume : IsVolumeShape (g.shape s)) (runs : Runs g s p) (path : List (List ℕ)) (place : Place) (at : IsPlace g s p path place) where
+module _ {D : Type 0} (g : Ghosts D) (s : D) (p : Pages) (volume : IsVolumeShape (g.shape s)) (runs : RunningIsRight g s p) (path : List (List ℕ)) (place : Place) (at : IsPlaceOfPath g s p path place) where
   abbrev graph : Graph
   graph = graph_of (g.shape s) (running_on g s p)
 
@@ -91,7 +91,7 @@ module _ {D : Type 0} (g : Ghosts D) (s : D) (p : Pages) (volume : IsVolumeShape
       (ap is_none (reached-is g s p volume runs path place at ∙ ap (option_map (λ (e : EntryRec). e.ino)) absent)) refl
 
   module _ (entry : EntryRec) (named : place.entry ≡ Some entry) where
-    pub target-used : IsUsed g s p entry.ino
+    pub target-used : IsUsedNode g s p entry.ino
     target-used = entry-used g s p place.dir at.name runs entry (record { rec = place.rec; is_node = at.is_node; is_dir = at.is_dir; named = at.entry ∙ named })
 
     pub entry-name : entry.name ≡ at.name
@@ -113,12 +113,12 @@ pub one-of : (o : Option Refusal) → first_of (o ∷ []) ≡ o
 one-of None = refl
 one-of (Some r) = refl
 
-module _ {D : Type 0} (g : Ghosts D) (s : D) (p : Pages) (t : D) (q : Pages) (volume : IsVolumeShape (g.shape s)) (later : IsVolumeShape (g.shape t)) (runs : Runs g s p) (on : RunsOn g s p t q) (free : Spaces) (fits : FreeFits g s p free) (path : List (List ℕ)) (place : Place)
-    (at : IsPlace g s p path place) (held : IsHeld g s p p place.dir place.rec) (entry : EntryRec) (named : place.entry ≡ Some entry) where
-  at-later : IsPlace g t q path place
+module _ {D : Type 0} (g : Ghosts D) (s : D) (p : Pages) (t : D) (q : Pages) (volume : IsVolumeShape (g.shape s)) (later : IsVolumeShape (g.shape t)) (runs : RunningIsRight g s p) (on : PreservesRunning g s p t q) (free : Spaces) (fits : FreeFits g s p free) (path : List (List ℕ)) (place : Place)
+    (at : IsPlaceOfPath g s p path place) (held : DirectoryIsResident g s p p place.dir place.rec) (entry : EntryRec) (named : place.entry ≡ Some entry) where
+  at-later : IsPlaceOfPath g t q path place
   at-later = placed-then g s p volume runs path place at t q on
 
-  runs-later : Runs g t q
+  runs-later : RunningIsRight g t q
   runs-later = then-runs g s p t q volume on runs
 
   fits-later : FreeFits g t q free
@@ -130,7 +130,7 @@ module _ {D : Type 0} (g : Ghosts D) (s : D) (p : Pages) (t : D) (q : Pages) (vo
   name-later : entry.name ≡ at-later.name
   name-later = entry-name g t q later runs-later path place at-later entry named
 
-  pub has-named : HasRoomFor 8 p → HasNamed place.dir entry.name q free
+  pub has-named : HasRoomForDirty 8 p → HasNamed place.dir entry.name q free
   has-named room = record {
     rec = place.rec;
     has = has-directory g t q later runs-later path place at-later q node-there there 3 room-later;
@@ -144,7 +144,7 @@ module _ {D : Type 0} (g : Ghosts D) (s : D) (p : Pages) (t : D) (q : Pages) (vo
       there : (i : ℕ) → i < place.rec.size → IsSome (page_of q (address_of_place place.rec i))
       there i h = kept-there (address_of_place place.rec i) (held.entries.directory.places.there i h)
 
-      room-later : HasRoomFor 3 q
+      room-later : HasRoomForDirty 3 q
       room-later = let e = ap (λ (ds : List ℕ). length (besides_0 ds)) on.dirty in omega (arith, e, room)
 
       of-pool : (i : ℕ) → i < place.rec.size → (free.first ≤ address_of_place place.rec i) × (address_of_place place.rec i < free.first + length free.pool)

@@ -32,12 +32,12 @@ use Rattle.nl_tree.specs.GraphLaws.{NamedOnce, entry_at}
 use Rattle.nl_tree.specs.Represents.{entries_in, node_named, node_of}
 use Rattle.nl_tree.proofs.ChangeProofs.{graph_changes}
 use Rattle.nl_tree.proofs.GraphProofs.{eq_name, name_eq, names_eq}
-use Rattle.nl_meta_running.specs.Running.{IsNeeded, IsNodeOf, Runs, stored_on}
+use Rattle.nl_meta_running.specs.Running.{IsNeeded, IsNodeOf, RunningIsRight, stored_on}
 use Rattle.nl_meta_running.proofs.Holds.{bounds-of, reads-none}
 use Rattle.nl_namespace.specs.Changing.{Changes, FreeFits}
 use Rattle.nl_namespace.specs.Entering.{TakesOut}
 use Rattle.nl_namespace.specs.Naming.{LosesName}
-use Rattle.nl_namespace.specs.Placing.{IsPlace}
+use Rattle.nl_namespace.specs.Placing.{IsPlaceOfPath}
 use Rattle.nl_namespace.specs.declared.place.Place.{Place}
 use Rattle.nl_namespace.proofs.DirectoryChanges.{one-node}
 use Rattle.nl_namespace.proofs.Links.{Led, listed-entry, lists-of-graph}
@@ -154,7 +154,7 @@ gone-before device p q n follows v e = of (page_of p v) refl
 
 -- ---- an entry taken out, and its node without a name
 
-module _ {D : Type 0} (g : Ghosts D) (s : D) (p q : Pages) (free after : Spaces) (volume : IsVolumeShape (g.shape s)) (runs : Runs g s p) (fits : FreeFits g s p free) (path : List (List ℕ)) (place : Place) (at : IsPlace g s p path place)
+module _ {D : Type 0} (g : Ghosts D) (s : D) (p q : Pages) (free after : Spaces) (volume : IsVolumeShape (g.shape s)) (runs : RunningIsRight g s p) (fits : FreeFits g s p free) (path : List (List ℕ)) (place : Place) (at : IsPlaceOfPath g s p path place)
     (entry : EntryRec) (named : place.entry ≡ Some entry) (target : InodeRec) (is : IsNodeOf g s p entry.ino target) (bare : target.kind ≡ File ⊎ ((target.kind ≡ Dir) × (target.size ≡ 0))) (takes : TakesOut place.dir at.name p q free after) where
   abbrev shape : Shape
   shape = g.shape s

@@ -6,7 +6,7 @@ use Rattle.nl_meta.specs.Nodes.{address_of_place, entries_of_inode, entry_named,
 use Rattle.nl_meta.specs.Pages.{Pages, page_of}
 use Rattle.nl_meta.proofs.Lists.{none_some, some_in}
 use Rattle.nl_dir.specs.Changes.{ChangesPages, changed_by_removal}
-use Rattle.nl_dir.specs.Directory.{HasRoomFor, entry_at, given_up, last_alone}
+use Rattle.nl_dir.specs.Directory.{HasRoomForDirty, entry_at, given_up, last_alone}
 use Rattle.nl_dir.proofs.EntryLists.{named-at, some-of}
 use Rattle.nl_dir.proofs.LawProofs.{change_takes_room}
 use Rattle.nl_inode.specs.Nodes.{Spaces}
@@ -21,7 +21,7 @@ two false false x y = omega arith
 pub few-changed : (rec : InodeRec) (at : ℕ) → length (changed_by_removal rec at) ≤ 2
 few-changed rec at = two (at == rec.size - 1) (last_alone rec) (address_of_place rec at) (address_of_place rec (rec.size - 1))
 
-pub room-left : (changed : List ℕ) (old new : Pages) (n m : ℕ) → ChangesPages changed old new → length changed ≤ m → HasRoomFor (n + m) old → HasRoomFor n new
+pub room-left : (changed : List ℕ) (old new : Pages) (n m : ℕ) → ChangesPages changed old new → length changed ≤ m → HasRoomForDirty (n + m) old → HasRoomForDirty n new
 room-left changed old new n m changes few room = change_takes_room changed old new n changes (omega (arith, few, room))
 
 -- a directory with an entry of some name has places

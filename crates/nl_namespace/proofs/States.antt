@@ -6,7 +6,7 @@ use Rattle.nl_meta.specs.Committed.{VirtualMap}
 use Rattle.nl_meta.specs.Consistent.{GoodEntry}
 use Rattle.nl_meta.specs.Pages.{Pages, besides_0, page_of}
 use Rattle.nl_meta.specs.Running.{CleanIsStored, running_over}
-use Rattle.nl_meta.specs.Steps.{ChangesPages}
+use Rattle.nl_meta.specs.Steps.{ChangesRunningPages}
 use Rattle.nl_meta.proofs.PageProofs.{both}
 use Rattle.nl_inode.specs.FreeLaws.{NodesAreFree, PoolIsFree}
 use Rattle.nl_inode.specs.Nodes.{Spaces}
@@ -34,7 +34,7 @@ pub record Follows (device : VirtualMap) (p q : Pages) (n : ℕ) : Type 0 where
   pub few : length (besides_0 q.dirty) ≤ length (besides_0 p.dirty) + n
   pub count : length q.running ≡ length p.running
   pub clean : CleanIsStored device p → CleanIsStored device q
-  pub pages : ChangesPages p q
+  pub pages : ChangesRunningPages p q
 
 pub follows-then : (device : VirtualMap) (p q r : Pages) (m n : ℕ) → Follows device p q m → Follows device q r n → Follows device p r (m + n)
 follows-then device p q r m n a b = record {

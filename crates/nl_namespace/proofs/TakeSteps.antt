@@ -13,7 +13,7 @@ use Rattle.nl_meta.specs.Nodes.{address_of_place, entries_of_inode, entry_named,
 use Rattle.nl_meta.specs.Pages.{Pages, page_of}
 use Rattle.nl_meta.specs.Running.{running_over}
 use Rattle.nl_meta.proofs.Lists.{member-append, none_some, some_in}
-use Rattle.nl_inode.specs.FreeLaws.{PoolIsFree, Uses}
+use Rattle.nl_inode.specs.FreeLaws.{PoolIsFree, UsesAddress}
 use Rattle.nl_inode.specs.Nodes.{Spaces, page_of_node}
 use Rattle.nl_inode.proofs.FreeProofs.{free_is_unused}
 use Rattle.nl_dir.specs.AfterLaws.{AddressesAfter, HasAddress}
@@ -24,7 +24,7 @@ use Rattle.nl_dir.proofs.EntryLists.{named-at, position-at, some-of}
 use Rattle.nl_dir.proofs.Records.{SpelledDir, spelled-dir}
 use Rattle.nl_meta_running.proofs.SameNeeded.{slot-filled}
 use Rattle.nl_tree.specs.GraphLaws.{entry_at}
-use Rattle.nl_namespace.specs.Entering.{Gives, TakesOut}
+use Rattle.nl_namespace.specs.Entering.{ReturnsAddress, TakesOut}
 use Rattle.nl_namespace.proofs.DirectoryChanges.{DirStep, IsNew}
 use Rattle.nl_namespace.proofs.DirectorySteps.{change, entry-after, entry-before, good-after, graph-stays, is-after, node-stays, nodes-after, target-after, uses-from, uses-here, uses-to}
 use Rattle.nl_namespace.proofs.NodeChanges.{formed-then, node-back}
@@ -152,28 +152,28 @@ module _ (shape : Shape) (bounds : ShapeBounds shape) (device : VirtualMap) (d :
   pub take-good : (e : EntryRec) → GoodEntry shape one e → GoodEntry shape two e
   take-good = target-after shape bounds device d rec is changed p takes.between q 0 step
 
-  pub fewer-uses : (b : ℕ) → Uses shape two b → Uses shape one b
+  pub fewer-uses : (b : ℕ) → UsesAddress shape two b → UsesAddress shape one b
   fewer-uses b u = by (uses-from shape bounds device d rec is changed p takes.between q 0 step b u)
     where
-      had : (k : ℕ) → HasAddress rec k b → Uses shape one b
+      had : (k : ℕ) → HasAddress rec k b → UsesAddress shape one b
       had k x = (d, k, record { rec = rec; is_node = is-node; in_slot = x.0; not_zero = x.1 })
 
-      by : ((k : ℕ) × HasAddress is k b) ⊎ ((k : ℕ) × (slot : ℕ) × (k ≢ d) × AddressAt shape one k slot b) → Uses shape one b
+      by : ((k : ℕ) × HasAddress is k b) ⊎ ((k : ℕ) × (slot : ℕ) × (k ≢ d) × AddressAt shape one k slot b) → UsesAddress shape one b
       by (inl x) = had x.0 ((after.removed some x.0 b).0 x.1).0
       by (inr x) = (x.0, x.1, x.3)
 
-  same-uses : (b : ℕ) → given_up rec ≢ Some b → Uses shape two b ↔ Uses shape one b
+  same-uses : (b : ℕ) → given_up rec ≢ Some b → UsesAddress shape two b ↔ UsesAddress shape one b
   same-uses b off = (fewer-uses b, back)
     where
-      back : Uses shape one b → Uses shape two b
+      back : UsesAddress shape one b → UsesAddress shape two b
       back u = by (uses-to shape bounds device d rec is changed p takes.between q 0 step b u)
         where
-          by : ((k : ℕ) × HasAddress rec k b) ⊎ Uses shape two b → Uses shape two b
+          by : ((k : ℕ) × HasAddress rec k b) ⊎ UsesAddress shape two b → UsesAddress shape two b
           by (inl x) = uses-here shape bounds device d rec is changed p takes.between q 0 step x.0 b ((after.removed some x.0 b).1 (x.1, off))
           by (inr x) = x
 
   -- the address that is given up is used no longer
-  given-unused : (a : ℕ) → given_up rec ≡ Some a → Uses shape two a → ⊥
+  given-unused : (a : ℕ) → given_up rec ≡ Some a → UsesAddress shape two a → ⊥
   given-unused a e u = by (uses-from shape bounds device d rec is changed p takes.between q 0 step a u)
     where
       last : address_of_place rec (rec.size - 1) ≡ a
@@ -209,7 +209,7 @@ module _ (shape : Shape) (bounds : ShapeBounds shape) (device : VirtualMap) (d :
     where
       by : (o : Option ℕ) → takes.given ≡ o → PoolIsFree shape two t
       by None e =
-          let same : t ≡ s = subst (λ (o : Option ℕ). Gives o s t) e takes.gives in
+          let same : t ≡ s = subst (λ (o : Option ℕ). ReturnsAddress o s t) e takes.gives in
           let off : (b : ℕ) → given_up rec ≢ Some b = λ b f. none_some b (sym e ∙ takes.removes.given ∙ f) in
           subst (PoolIsFree shape two) (sym same) (record {
             first = state.pool.first;
@@ -219,7 +219,7 @@ module _ (shape : Shape) (bounds : ShapeBounds shape) (device : VirtualMap) (d :
             );
           })
       by (Some a) e =
-          let h = subst (λ (o : Option ℕ). Gives o s t) e takes.gives in
+          let h = subst (λ (o : Option ℕ). ReturnsAddress o s t) e takes.gives in
           let g = sym takes.removes.given ∙ e in
           let f = state.pool.first in
           let l = given-low a g in
@@ -229,15 +229,15 @@ module _ (shape : Shape) (bounds : ShapeBounds shape) (device : VirtualMap) (d :
   nodes-same = by takes.given refl
     where
       by : (o : Option ℕ) → takes.given ≡ o → t.nodes ≡ s.nodes
-      by None e = ap (λ (x : Spaces). x.nodes) (subst (λ (o : Option ℕ). Gives o s t) e takes.gives)
-      by (Some a) e = (subst (λ (o : Option ℕ). Gives o s t) e takes.gives).nodes
+      by None e = ap (λ (x : Spaces). x.nodes) (subst (λ (o : Option ℕ). ReturnsAddress o s t) e takes.gives)
+      by (Some a) e = (subst (λ (o : Option ℕ). ReturnsAddress o s t) e takes.gives).nodes
 
   pool-count : length t.pool ≡ length s.pool
   pool-count = by takes.given refl
     where
       by : (o : Option ℕ) → takes.given ≡ o → length t.pool ≡ length s.pool
-      by None e = ap (λ (x : Spaces). length x.pool) (subst (λ (o : Option ℕ). Gives o s t) e takes.gives)
-      by (Some a) e = (subst (λ (o : Option ℕ). Gives o s t) e takes.gives).pool.count
+      by None e = ap (λ (x : Spaces). length x.pool) (subst (λ (o : Option ℕ). ReturnsAddress o s t) e takes.gives)
+      by (Some a) e = (subst (λ (o : Option ℕ). ReturnsAddress o s t) e takes.gives).pool.count
 
   pub take-state : State shape device q t
   take-state = record {

@@ -19,7 +19,7 @@ use Rattle.nl_meta_running.proofs.GraphStays.{graph-same}
 use Rattle.nl_meta_running.proofs.SameNeeded.{entries-same}
 use Rattle.nl_dir.proofs.ListProofs.{entries_by_lists}
 use Rattle.nl_namespace.specs.Listing.{kind_mark, mark_of, text_of}
-use Rattle.nl_meta_running.specs.Running.{IsNodeOf, IsUsed, Runs, RunsOn, running_on}
+use Rattle.nl_meta_running.specs.Running.{IsNodeOf, IsUsedNode, RunningIsRight, PreservesRunning, running_on}
 use Rattle.nl_namespace.proofs.Graphs.{body-is, graph}
 
 -- entries of one name are one
@@ -29,19 +29,19 @@ names-differ pages rec is e f h k same =
     some_in e f (sym ((by e).0 h) ∙ ap (entry_named pages rec) same ∙ (by f).0 k)
 
 module _ {D : Type 0} (g : Ghosts D) (s : D) (p : Pages) where
-  pub graph-on : (t : D) (q : Pages) → ShapeBounds (g.shape s) → RunsOn g s p t q → graph g t q ≡ graph g s p
+  pub graph-on : (t : D) (q : Pages) → ShapeBounds (g.shape s) → PreservesRunning g s p t q → graph g t q ≡ graph g s p
   graph-on t q bounds on =
       ap (λ (n : Shape). graph_of n (running_on g t q)) on.reads.medium.virtual.same_shape
       ∙ graph-same (g.shape s) bounds (running_on g s p) (running_on g t q) on.needed
 
-  pub entries-on : (t : D) (q : Pages) → ShapeBounds (g.shape s) → RunsOn g s p t q → (n : ℕ) (rec : InodeRec) → IsNodeOf g s p n rec → rec.kind ≡ Dir
+  pub entries-on : (t : D) (q : Pages) → ShapeBounds (g.shape s) → PreservesRunning g s p t q → (n : ℕ) (rec : InodeRec) → IsNodeOf g s p n rec → rec.kind ≡ Dir
       → entries_of_inode (running_on g t q) rec ≡ entries_of_inode (running_on g s p) rec
   entries-on t q bounds on n rec is dir = entries-same (g.shape s) bounds (running_on g s p) (running_on g t q) on.needed n rec is dir
 
-  pub directory-of : Runs g s p → (n : ℕ) (rec : InodeRec) → IsNodeOf g s p n rec → rec.kind ≡ Dir → IsDirectory (running_on g s p) rec
+  pub directory-of : RunningIsRight g s p → (n : ℕ) (rec : InodeRec) → IsNodeOf g s p n rec → rec.kind ≡ Dir → IsDirectory (running_on g s p) rec
   directory-of runs n rec is dir = right_is_directory (g.shape s) (running_on g s p) n rec runs.addresses runs.entries is dir
 
-  pub listed-used : Runs g s p → (n : ℕ) (rec : InodeRec) → IsNodeOf g s p n rec → rec.kind ≡ Dir → (e : EntryRec) → Has (entries_of_inode (running_on g s p) rec) e → IsUsed g s p e.ino
+  pub listed-used : RunningIsRight g s p → (n : ℕ) (rec : InodeRec) → IsNodeOf g s p n rec → rec.kind ≡ Dir → (e : EntryRec) → Has (entries_of_inode (running_on g s p) rec) e → IsUsedNode g s p e.ino
   listed-used runs n rec is dir e has =
       let lists = (entries_by_lists (g.shape s) (running_on g s p) runs.addresses).0 runs.entries in
       let good = lists.good n e (record { rec = rec; is_node = is; is_dir = dir; has = has }) in

@@ -31,9 +31,9 @@ use Rattle.nl_spec_image.specs.Stands.{bytes_for}
 use Rattle.nl_spec_image.proofs.GraphOfPages.{graph, reached_is_node}
 use Rattle.nl_spec_image.proofs.TreeOfPages.{node_here, once}
 use Rattle.nl_namespace.specs.Calls.{ChangesInTree, IsStep}
-use Rattle.nl_namespace.specs.ChangeLaws.{StandsFor}
+use Rattle.nl_namespace.specs.ChangeLaws.{GraphRepresents}
 use Rattle.nl_namespace.specs.Entering.{HasFreeAddress}
-use Rattle.nl_namespace.specs.Moving.{CanTake, CannotTake, HasPlaceTo, LacksPlace, MovesName, MovesOrStays, refusal_of_place, refusal_of_rename}
+use Rattle.nl_namespace.specs.Moving.{CanTake, CannotTake, HasRoomForMove, LacksRoomForMove, MovesName, MovesOrStays, refusal_of_place, refusal_of_rename}
 use Rattle.nl_namespace.specs.Naming.{IsFull, LosesName, MakesNode, NameIn, refusal_of_name}
 use Rattle.nl_namespace.specs.Paths.{walk_refusal}
 use Rattle.nl_namespace.specs.Standing.{HoldsTree}
@@ -116,7 +116,7 @@ module _ (shape : Shape) (pages : VirtualMap) (page_of_stamp : ℕ → Option Pa
       let x = node_here shape pages page_of_stamp holds.right n in
       (x.0, x.1 r.rec r.is)
 
-  stands : StandsFor b g tree
+  stands : GraphRepresents b g tree
   stands = record {
     represents = holds.represents.depicts;
     root = holds.represents.is_tree.root;
@@ -265,7 +265,7 @@ module _ (shape : Shape) (pages : VirtualMap) (page_of_stamp : ℕ → Option Pa
         by true e = inl (eq_path p q e)
         by false e = inr (λ s. false-true (sym e ∙ path_eq p q s))
 
-    moved-free : refusal_of_rename g from to ≡ None → node_reached g 0 to ≡ None → is_at_or_under from to ≡ false → HasPlaceTo free g from to → Fits shape (with_renamed tree from to)
+    moved-free : refusal_of_rename g from to ≡ None → node_reached g 0 to ≡ None → is_at_or_under from to ≡ false → HasRoomForMove free g from to → Fits shape (with_renamed tree from to)
     unfolding can-move
     moved-free e none apart h = by (same-or-not h.place.parent h.place_to.parent)
       where
@@ -416,7 +416,7 @@ module _ (shape : Shape) (pages : VirtualMap) (page_of_stamp : ℕ → Option Pa
       pub moved-over : Fits shape (with_renamed tree from to)
       moved-over = subst (Fits shape) same-after moved1
 
-    moved-fits : refusal_of_rename g from to ≡ None → (gone : Option ℕ) → paths_eq from to ≡ false → MovesName g new from to gone → HasPlaceTo free g from to → Fits shape (with_renamed tree from to)
+    moved-fits : refusal_of_rename g from to ≡ None → (gone : Option ℕ) → paths_eq from to ≡ false → MovesName g new from to gone → HasRoomForMove free g from to → Fits shape (with_renamed tree from to)
     moved-fits e gone other mv h = by (node_reached g 0 to) refl
       where
         by : (o : Option ℕ) → node_reached g 0 to ≡ o → Fits shape (with_renamed tree from to)
@@ -426,14 +426,14 @@ module _ (shape : Shape) (pages : VirtualMap) (page_of_stamp : ℕ → Option Pa
     abbrev after : Tree
     after = cond (paths_eq from to) tree (with_renamed tree from to)
 
-    renamed-room : refusal_of_rename g from to ≡ None → (gone : Option ℕ) → MovesOrStays g new from to gone → (paths_eq from to ≡ false → HasPlaceTo free g from to) → None ≡ space_refusal shape after
+    renamed-room : refusal_of_rename g from to ≡ None → (gone : Option ℕ) → MovesOrStays g new from to gone → (paths_eq from to ≡ false → HasRoomForMove free g from to) → None ≡ space_refusal shape after
     renamed-room e gone m h = by (paths_eq from to) refl m
       where
         by : (t : Bool) → paths_eq from to ≡ t → MatchBool t ((gone ≡ None) × (new ≡ g)) (MovesName g new from to gone) → None ≡ space_refusal shape (cond t tree (with_renamed tree from to))
         by true t m = fits-room shape tree fits
         by false t m = fits-room shape (with_renamed tree from to) (moved-fits e gone t m (h t))
 
-    lacks-space : (r : Refusal) → refusal_of_rename g from to ≡ None → (l : LacksPlace free g from to r) → Some (Enospc l.space) ≡ space_refusal shape after
+    lacks-space : (r : Refusal) → refusal_of_rename g from to ≡ None → (l : LacksRoomForMove free g from to r) → Some (Enospc l.space) ≡ space_refusal shape after
     unfolding can-move
     lacks-space r e l = by l.space l.full ∙ ap (λ (t : Bool). space_refusal shape (cond t tree (with_renamed tree from to))) (sym other)
       where

@@ -11,7 +11,7 @@ use Rattle.nl_tree.specs.declared.reply.Refusal.{Refusal}
 use Rattle.nl_tree.specs.declared.reply.Refusal.TheVariants.{Eexist, Eisdir, Enametoolong, Enoent}
 use Rattle.nl_tree.proofs.ChangeProofs.{graph_changes}
 use Rattle.nl_tree.proofs.GraphProofs.{added_entry}
-use Rattle.nl_namespace.specs.ChangeLaws.{MakesInTree, RemovesInTree, StandsFor, UnlinksInTree}
+use Rattle.nl_namespace.specs.ChangeLaws.{MakesInTree, RemovesInTree, GraphRepresents, UnlinksInTree}
 use Rattle.nl_namespace.specs.Naming.{refusal_of_kind, refusal_of_name, refusal_of_removal}
 use Rattle.nl_namespace.specs.Paths.{walk_refusal}
 use Rattle.nl_namespace.specs.declared.answer.Change.TheVariants as change
@@ -32,7 +32,7 @@ four None None None (Some r) e = refl
 four None None None None (Some r) = refl
 four None None None None None = refl
 
-module _ (bytes_of : ℕ → List ℕ) (graph : Graph) (tree : Tree) (stands : StandsFor bytes_of graph tree) (path : List (List ℕ)) where
+module _ (bytes_of : ℕ → List ℕ) (graph : Graph) (tree : Tree) (stands : GraphRepresents bytes_of graph tree) (path : List (List ℕ)) where
   -- what stands at the path
   pub at-path : node_at tree path ≡ option_and_then (λ n. node_of bytes_of (graph n).body) (node_reached graph 0 path)
   at-path = stands.represents path

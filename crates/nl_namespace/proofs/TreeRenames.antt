@@ -10,7 +10,7 @@ use Rattle.nl_tree.specs.declared.reply.Refusal.{Refusal}
 use Rattle.nl_tree.specs.declared.reply.Refusal.TheVariants.{Einval, Eisdir, Enametoolong, Enoent, Enotdir, Enotempty}
 use Rattle.nl_tree.proofs.ChangeProofs.{graph_changes}
 use Rattle.nl_tree.proofs.TreeProofs.{under_append}
-use Rattle.nl_namespace.specs.ChangeLaws.{RenamesInTree, StandsFor}
+use Rattle.nl_namespace.specs.ChangeLaws.{RenamesInTree, GraphRepresents}
 use Rattle.nl_namespace.specs.Moving.{MovesName, MovesOrStays, is_directory_body, refusal_of_place, refusal_of_rename, refusal_over}
 use Rattle.nl_namespace.specs.Naming.{body_at}
 use Rattle.nl_namespace.specs.Paths.{walk_refusal}
@@ -62,7 +62,7 @@ over-none bytes_of unused some = refl
 over-none bytes_of (directory_node es) some = refl
 over-none bytes_of (file_node n ps) some = refl
 
-module _ (bytes_of : ℕ → List ℕ) (graph : Graph) (tree : Tree) (stands : StandsFor bytes_of graph tree) (from to : List (List ℕ)) where
+module _ (bytes_of : ℕ → List ℕ) (graph : Graph) (tree : Tree) (stands : GraphRepresents bytes_of graph tree) (from to : List (List ℕ)) where
   module _ (m : ℕ) (reached : node_reached graph 0 from ≡ Some m) where
     old-at : node_at tree from ≡ node_of bytes_of (graph m).body
     old-at = at-path bytes_of graph tree stands from ∙ ap (option_and_then (λ n. node_of bytes_of (graph n).body)) reached

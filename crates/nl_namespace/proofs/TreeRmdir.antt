@@ -14,7 +14,7 @@ use Rattle.nl_tree.proofs.ChangeProofs.{at_end}
 use Rattle.nl_tree.proofs.EntriesProofs.{entries_laws}
 use Rattle.nl_tree.proofs.GraphProofs.{name_eq}
 use Rattle.nl_tree.proofs.TreeProofs.{path_eq, under_parts}
-use Rattle.nl_namespace.specs.ChangeLaws.{RmdirsInTree, StandsFor}
+use Rattle.nl_namespace.specs.ChangeLaws.{RmdirsInTree, GraphRepresents}
 use Rattle.nl_namespace.specs.Naming.{refusal_of_kind, refusal_of_removal}
 use Rattle.nl_namespace.specs.Paths.{walk_refusal}
 use Rattle.nl_namespace.specs.declared.answer.Change.TheVariants as change
@@ -74,7 +74,7 @@ length-both : (p q : List (List ℕ)) → length (p ++ q) ≡ length p + length 
 length-both [] q = omega arith
 length-both (x ∷ p) q = let e = length-both p q in omega (arith, e)
 
-module _ (bytes_of : ℕ → List ℕ) (graph : Graph) (tree : Tree) (stands : StandsFor bytes_of graph tree) (path : List (List ℕ)) (n : ℕ) (reached : node_reached graph 0 path ≡ Some n) where
+module _ (bytes_of : ℕ → List ℕ) (graph : Graph) (tree : Tree) (stands : GraphRepresents bytes_of graph tree) (path : List (List ℕ)) (n : ℕ) (reached : node_reached graph 0 path ≡ Some n) where
   -- what stands under a name of the directory
   under-name : (x : List ℕ) → node_at (entries_of tree path) (path ++ x ∷ []) ≡ option_and_then (λ m. node_of bytes_of (graph m).body) (entry_at graph n x)
   under-name x = entries_laws.of_node bytes_of graph tree path n x stands.represents reached
@@ -125,7 +125,7 @@ module _ (bytes_of : ℕ → List ℕ) (graph : Graph) (tree : Tree) (stands : S
   nonempty-same [] body = no-entry body (entries_of tree path) refl
   nonempty-same ((x, k) ∷ es) body = some-entry x k es body (entries_of tree path) refl ∙ sym (lt-ltb 0 (length ((x, k) ∷ es)) (omega arith))
 
-module _ (bytes_of : ℕ → List ℕ) (graph : Graph) (tree : Tree) (stands : StandsFor bytes_of graph tree) (path : List (List ℕ)) where
+module _ (bytes_of : ℕ → List ℕ) (graph : Graph) (tree : Tree) (stands : GraphRepresents bytes_of graph tree) (path : List (List ℕ)) where
   last-same : (a b c : Option Refusal) (o : Option ℕ) → node_reached graph 0 path ≡ o
       → first_of (a ∷ b ∷ c ∷ when (is_none o) Enoent ∷ when (is_file (option_and_then (λ n. node_of bytes_of (graph n).body) o)) Enotdir ∷ when (nat_lt 0 (length (entries_of tree path))) Enotempty ∷ [])
       ≡ first_of (a ∷ b ∷ c ∷ when (is_none o) Enoent ∷ refusal_of_kind Dir (option_map_or (λ n. (graph n).body) o unused) ∷ [])

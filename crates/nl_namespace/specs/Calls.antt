@@ -33,8 +33,8 @@ IsOfNames (Rename from to) = ⊤
 IsOfNames _ = ⊥
 
 -- Each name of its paths is one but for its length.
-abbrev pub HasNames : Call → Type 0
-HasNames call = AllByRecursion AreNames (paths_of call)
+abbrev pub PathsHaveNames : Call → Type 0
+PathsHaveNames call = AllByRecursion AreNames (paths_of call)
 
 -- how the call answers, with what is free and the nodes before it, and the nodes after it
 abbrev pub ChangesNames : Spaces → Graph → Graph → Call → Change → Type 0

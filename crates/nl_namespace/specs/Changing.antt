@@ -13,8 +13,8 @@ use Rattle.nl_meta.specs.Nodes.{graph_of}
 use Rattle.nl_meta.specs.Pages.{Pages, besides_0, page_of}
 use Rattle.nl_meta.specs.PointerLists.{tagged_in}
 use Rattle.nl_meta.specs.Running.{CleanIsStored}
-use Rattle.nl_meta.specs.Steps.{ChangesPages}
-use Rattle.nl_meta_running.specs.Running.{IsNeeded, IsNodeOf, RunsOn, running_on, stored_on}
+use Rattle.nl_meta.specs.Steps.{ChangesRunningPages}
+use Rattle.nl_meta_running.specs.Running.{IsNeeded, IsNodeOf, PreservesRunning, running_on, stored_on}
 use Rattle.nl_namespace.specs.declared.answer.Change.{Change}
 use Rattle.nl_namespace.specs.declared.answer.Change.TheVariants as change
 
@@ -32,7 +32,7 @@ EntriesBut shape pages (Some n) =
     (rec : InodeRec) (after : VirtualMap) → rec.kind ≡ Unused → NodeIs n rec pages after → EntriesRight shape after
 
 -- Names can be looked up, once that node is unused. Its record is what it was, and so are the pages that it has.
-pub record RunsBut {D : Type 0} (g : Ghosts D) (s : D) (p : Pages) (gone : Option ℕ) : Type 0 where
+pub record RunningIsRightBut {D : Type 0} (g : Ghosts D) (s : D) (p : Pages) (gone : Option ℕ) : Type 0 where
   pub count : length p.running ≡ (g.shape s).vaddrs
   pub nodes : NodesRight (g.shape s) (running_on g s p)
   pub addresses : AddressesRight (g.shape s) (running_on g s p)
@@ -50,9 +50,9 @@ pub record FileStays {D : Type 0} (g : Ghosts D) (s : D) (p : Pages) (t : D) (q 
 pub record Changes {D : Type 0} (g : Ghosts D) (s : D) (p : Pages) (t : D) (q : Pages) (free : Spaces) (gone : Option ℕ) : Type 0 where
   pub reads : OnlyReads g s t
   pub frozen : q.frozen ≡ p.frozen
-  pub pages : ChangesPages p q
+  pub pages : ChangesRunningPages p q
   pub few : length (besides_0 q.dirty) ≤ length (besides_0 p.dirty) + 8
-  pub runs : RunsBut g t q gone
+  pub runs : RunningIsRightBut g t q gone
   -- the node that lost its name still counts as used
   pub fits : FreeFits g t q free
   pub files : (n : ℕ) (rec : InodeRec) → IsNodeOf g s p n rec → rec.kind ≡ File → FileStays g s p t q n rec
@@ -60,8 +60,8 @@ pub record Changes {D : Type 0} (g : Ghosts D) (s : D) (p : Pages) (t : D) (q : 
   pub pointers : tagged_in (g.shape t) (running_on g t q) ≡ tagged_in (g.shape s) (running_on g s p)
 
 -- what a call leaves: all as it was, unless it was done
-abbrev pub Leaves : {D : Type 0} → Ghosts D → D → Pages → Spaces → D → Pages → Spaces → Change → Type 0
-Leaves g s p free t q after (change.Changed gone) = Changes g s p t q after gone
-Leaves g s p free t q after (change.No refusal) = RunsOn g s p t q × (after ≡ free)
-Leaves g s p free t q after change.Fault = RunsOn g s p t q × (after ≡ free)
-Leaves g s p free t q after (change.Lost w f) = RunsOn g s p t q × (after ≡ free)
+abbrev pub ChangeLeaves : {D : Type 0} → Ghosts D → D → Pages → Spaces → D → Pages → Spaces → Change → Type 0
+ChangeLeaves g s p free t q after (change.Changed gone) = Changes g s p t q after gone
+ChangeLeaves g s p free t q after (change.No refusal) = PreservesRunning g s p t q × (after ≡ free)
+ChangeLeaves g s p free t q after change.Fault = PreservesRunning g s p t q × (after ≡ free)
+ChangeLeaves g s p free t q after (change.Lost w f) = PreservesRunning g s p t q × (after ≡ free)

@@ -4,8 +4,8 @@ use Rattle.nl_field.specs.declared.entry.EntryRec.{EntryRec}
 use Rattle.nl_field.specs.declared.inode.InodeRec.{InodeRec}
 use Rattle.nl_meta.specs.Nodes.{address_of_place, entry_named, inode_at}
 use Rattle.nl_meta.specs.Pages.{Pages, page_of}
-use Rattle.nl_dir.specs.Changes.{InsertsEntry, RemovesEntry}
-use Rattle.nl_dir.specs.Directory.{FitsFresh, HasRoomFor, IsDirectory, longer, shorter}
+use Rattle.nl_dir.specs.Changes.{InsertsEntry, RemovesDirectoryEntry}
+use Rattle.nl_dir.specs.Directory.{FitsFresh, HasRoomForDirty, IsDirectory, longer, shorter}
 use Rattle.nl_inode.specs.Nodes.{AddressBecomes, PutsNode, Spaces, is_free_address, page_of_node}
 
 -- Node n is a directory in memory, with this record, and so many pages may become dirty.
@@ -13,10 +13,10 @@ pub record HasDirectory (n : ℕ) (rec : InodeRec) (room : ℕ) (p : Pages) : Ty
   pub node_there : IsSome (page_of p (page_of_node n))
   pub spelled : inode_at (page_of p) n ≡ Some rec
   pub directory : IsDirectory (page_of p) rec
-  pub has_room : HasRoomFor room p
+  pub has_room : HasRoomForDirty room p
 
 -- A free address is no page of the directory, and one for a page.
-pub record FreeAreNew (rec : InodeRec) (p : Pages) (free : Spaces) : Type 0 where
+pub record FreeAreNewToDirectory (rec : InodeRec) (p : Pages) (free : Spaces) : Type 0 where
   pub each : (a : ℕ) → is_free_address free a ≡ true → (a ≢ 0) × (a < length p.running)
   pub unused : (a i : ℕ) → is_free_address free a ≡ true → i < rec.size → address_of_place rec i ≢ a
 
@@ -27,15 +27,15 @@ pub record FitsBehind (n : ℕ) (entry : EntryRec) (p : Pages) (free : Spaces) :
   pub few : rec.size < 1024
   pub absent : entry_named (page_of p) rec entry.name ≡ None
   pub address : rec.size % 64 ≡ 0 → (a : ℕ) × (is_free_address free a ≡ true)
-  pub new : FreeAreNew rec p free
+  pub new : FreeAreNewToDirectory rec p free
 
-abbrev pub Takes : Option ℕ → Spaces → Spaces → Type 0
-Takes None s t = t ≡ s
-Takes (Some a) s t = (is_free_address s a ≡ true) × AddressBecomes a false s t
+abbrev pub TakesAddress : Option ℕ → Spaces → Spaces → Type 0
+TakesAddress None s t = t ≡ s
+TakesAddress (Some a) s t = (is_free_address s a ≡ true) × AddressBecomes a false s t
 
-abbrev pub Gives : Option ℕ → Spaces → Spaces → Type 0
-Gives None s t = t ≡ s
-Gives (Some a) s t = AddressBecomes a true s t
+abbrev pub ReturnsAddress : Option ℕ → Spaces → Spaces → Type 0
+ReturnsAddress None s t = t ≡ s
+ReturnsAddress (Some a) s t = AddressBecomes a true s t
 
 -- The entry stands in the directory, whose record says so.
 pub record PutsIn (n : ℕ) (entry : EntryRec) (old new : Pages) (s t : Spaces) : Type 0 where
@@ -44,7 +44,7 @@ pub record PutsIn (n : ℕ) (entry : EntryRec) (old new : Pages) (s t : Spaces) 
   pub fresh : Option ℕ
   pub fits : FitsFresh old rec fresh
   pub few : rec.size < 1024
-  pub takes : Takes fresh s t
+  pub takes : TakesAddress fresh s t
   pub between : Pages
   pub inserts : InsertsEntry entry fresh rec (longer rec fresh) old between
   pub puts : PutsNode n (longer rec fresh) between new
@@ -62,9 +62,9 @@ pub record TakesOut (n : ℕ) (name : List ℕ) (old new : Pages) (s t : Spaces)
   pub has : HasDirectory n rec 3 old
   pub there : IsSome (entry_named (page_of old) rec name)
   pub given : Option ℕ
-  pub gives : Gives given s t
+  pub gives : ReturnsAddress given s t
   pub between : Pages
-  pub removes : RemovesEntry name given rec (shorter rec) old between
+  pub removes : RemovesDirectoryEntry name given rec (shorter rec) old between
   pub puts : PutsNode n (shorter rec) between new
 
 abbrev pub HasFreeAddress : Spaces → Type 0

@@ -8,7 +8,7 @@ use Rattle.nl_inode.specs.Nodes.{Spaces}
 use Rattle.nl_meta_running.specs.Running.{IsNodeOf, running_on}
 use Rattle.nl_namespace.specs.Entering.{FitsBehind, PutsIn, TakesOut}
 use Rattle.nl_namespace.specs.Paths.{walk_refusal}
-use Rattle.nl_namespace.specs.Placing.{IsHeld, IsPlace}
+use Rattle.nl_namespace.specs.Placing.{DirectoryIsResident, IsPlaceOfPath}
 use Rattle.nl_namespace.specs.declared.finding.Found.{Found}
 use Rattle.nl_namespace.specs.declared.finding.Found.TheVariants as found
 use Rattle.nl_namespace.specs.declared.finding.There.{There}
@@ -19,20 +19,20 @@ abbrev pub place_of : There → Place
 place_of x = record { dir = x.dir; rec = x.rec; entry = Some x.entry }
 
 -- The name stands there, for a node of this record.
-pub record IsThere {D : Type 0} (g : Ghosts D) (s : D) (p : Pages) (path : List (List ℕ)) (x : There) : Type 0 where
-  pub place : IsPlace g s p path (place_of x)
+pub record NameIsThere {D : Type 0} (g : Ghosts D) (s : D) (p : Pages) (path : List (List ℕ)) (x : There) : Type 0 where
+  pub place : IsPlaceOfPath g s p path (place_of x)
   pub is_node : IsNodeOf g s p x.entry.ino x.node
 
-abbrev pub IsFound : {D : Type 0} → Ghosts D → D → Pages → List (List ℕ) → Found → Type 0
-IsFound g s p path (found.At x) = IsThere g s p path x
-IsFound g s p path (found.Free place) = IsPlace g s p path place × (place.entry ≡ None)
-IsFound g s p path (found.No refusal) = walk_refusal (graph_of (g.shape s) (running_on g s p)) 0 path ≡ Some refusal
+abbrev pub IsFoundName : {D : Type 0} → Ghosts D → D → Pages → List (List ℕ) → Found → Type 0
+IsFoundName g s p path (found.At x) = NameIsThere g s p path x
+IsFoundName g s p path (found.Free place) = IsPlaceOfPath g s p path place × (place.entry ≡ None)
+IsFoundName g s p path (found.No refusal) = walk_refusal (graph_of (g.shape s) (running_on g s p)) 0 path ≡ Some refusal
 
 -- the pages of the directory and of its record are resident
-abbrev pub IfFound : {D : Type 0} → Ghosts D → D → Pages → Pages → Found → Type 0
-IfFound g s p q (found.At x) = IsHeld g s p q x.dir x.rec
-IfFound g s p q (found.Free place) = IsHeld g s p q place.dir place.rec
-IfFound g s p q (found.No refusal) = ⊤
+abbrev pub FoundIsResident : {D : Type 0} → Ghosts D → D → Pages → Pages → Found → Type 0
+FoundIsResident g s p q (found.At x) = DirectoryIsResident g s p q x.dir x.rec
+FoundIsResident g s p q (found.Free place) = DirectoryIsResident g s p q place.dir place.rec
+FoundIsResident g s p q (found.No refusal) = ⊤
 
 -- ---- an entry moved
 

@@ -7,10 +7,10 @@ use Rattle.nl_field.specs.declared.inode.Kind.{Kind}
 use Rattle.nl_field.specs.declared.inode.Kind.TheVariants.{Dir, File, Unused}
 use Rattle.nl_meta.specs.Nodes.{address_of_place, entry_named, inode_at}
 use Rattle.nl_meta.specs.Pages.{Pages, page_of}
-use Rattle.nl_inode.specs.Free.{IsLeast}
+use Rattle.nl_inode.specs.Free.{IsLeastFreeNumber}
 use Rattle.nl_inode.specs.Nodes.{NodeBecomes, PutsNode, Spaces, page_of_node, taken_as}
 use Rattle.nl_tree.specs.Tree.{Node, directory, file}
-use Rattle.nl_namespace.specs.Entering.{FreeAreNew, HasDirectory, HasFreeAddress, PutsIn}
+use Rattle.nl_namespace.specs.Entering.{FreeAreNewToDirectory, HasDirectory, HasFreeAddress, PutsIn}
 
 -- a new directory, or a file
 abbrev pub empty_node : Kind → Node
@@ -30,7 +30,7 @@ pub record FitsNew (n m : ℕ) (name : List ℕ) (p : Pages) (free : Spaces) : T
   pub few : rec.size < 1024
   pub absent : entry_named (page_of p) rec name ≡ None
   pub address : rec.size % 64 ≡ 0 → HasFreeAddress free
-  pub new : FreeAreNew rec p free
+  pub new : FreeAreNewToDirectory rec p free
 
 -- Node m, which was free, has an empty record of its next generation, and the name in directory n.
 pub record MakesIn (n m : ℕ) (kind : Kind) (name : List ℕ) (old new : Pages) (s t : Spaces) : Type 0 where
@@ -44,7 +44,7 @@ pub record MakesIn (n m : ℕ) (kind : Kind) (name : List ℕ) (old new : Pages)
   pub puts : PutsIn n entry between new free t
 
 -- The node is the least free one, and a directory of so many entries has room for it.
-pub record HasSpare (free : Spaces) (count m : ℕ) : Type 0 where
-  pub least : IsLeast m free.nodes
+pub record HasRoomForNode (free : Spaces) (count m : ℕ) : Type 0 where
+  pub least : IsLeastFreeNumber m free.nodes
   pub few : count < 1024
   pub address : count % 64 ≡ 0 → HasFreeAddress free

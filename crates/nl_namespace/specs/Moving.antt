@@ -84,7 +84,7 @@ CannotTake free others count space.Meta = (count < 1024) × (count % 64 ≡ 0) �
 CannotTake free others count space.Pages = ⊥
 
 -- Nothing stands at the second path, which is one of another directory, not under the first path, and that has no room.
-pub record LacksPlace (free : Spaces) (graph : Graph) (from to : List (List ℕ)) (refusal : Refusal) : Type 0 where
+pub record LacksRoomForMove (free : Spaces) (graph : Graph) (from to : List (List ℕ)) (refusal : Refusal) : Type 0 where
   pub n : ℕ
   pub l : ℕ
   pub name : List ℕ
@@ -103,7 +103,7 @@ abbrev pub CanTake : Spaces → ℕ → ℕ → ℕ → ℕ → Type 0
 CanTake free dir others to count = (dir ≡ to) ⊎ ((count < 1024) × (count % 64 ≡ 0 → HasFreeAddress free ⊎ (others % 64 ≡ 1)))
 
 -- Where nothing stands at the second path, its directory has room.
-pub record HasPlaceTo (free : Spaces) (graph : Graph) (from to : List (List ℕ)) : Type 0 where
+pub record HasRoomForMove (free : Spaces) (graph : Graph) (from to : List (List ℕ)) : Type 0 where
   pub n : ℕ
   pub l : ℕ
   pub name : List ℕ
@@ -115,9 +115,9 @@ pub record HasPlaceTo (free : Spaces) (graph : Graph) (from to : List (List ℕ)
 -- how a rename answers
 abbrev pub RenamesName : Spaces → Graph → Graph → List (List ℕ) → List (List ℕ) → Change → Type 0
 RenamesName free old new from to (change.Changed gone) =
-    (refusal_of_rename old from to ≡ None) × MovesOrStays old new from to gone × (paths_eq from to ≡ false → HasPlaceTo free old from to)
+    (refusal_of_rename old from to ≡ None) × MovesOrStays old new from to gone × (paths_eq from to ≡ false → HasRoomForMove free old from to)
 RenamesName free old new from to (change.No refusal) =
-    (refusal_of_rename old from to ≡ Some refusal) ⊎ ((refusal_of_rename old from to ≡ None) × LacksPlace free old from to refusal)
+    (refusal_of_rename old from to ≡ Some refusal) ⊎ ((refusal_of_rename old from to ≡ None) × LacksRoomForMove free old from to refusal)
 RenamesName free old new from to change.Fault = ⊤
 RenamesName free old new from to (change.Lost w f) = ⊤
 

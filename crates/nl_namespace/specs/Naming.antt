@@ -13,9 +13,9 @@ use Rattle.nl_tree.specs.declared.reply.Refusal.{Refusal}
 use Rattle.nl_tree.specs.declared.reply.Refusal.TheVariants.{Eexist, Einval, Eisdir, Enametoolong, Enoent, Enospc, Enotdir, Enotempty}
 use Rattle.nl_tree.specs.declared.reply.Space.{Space}
 use Rattle.nl_tree.specs.declared.reply.Space.TheVariants as space
-use Rattle.nl_inode.specs.Free.{IsLeast, NoneFree}
+use Rattle.nl_inode.specs.Free.{IsLeastFreeNumber, NoneFree}
 use Rattle.nl_inode.specs.Nodes.{Spaces}
-use Rattle.nl_namespace.specs.Making.{HasSpare}
+use Rattle.nl_namespace.specs.Making.{HasRoomForNode}
 use Rattle.nl_namespace.specs.Paths.{walk_refusal}
 use Rattle.nl_namespace.specs.declared.answer.Change.{Change}
 use Rattle.nl_namespace.specs.declared.answer.Change.TheVariants as change
@@ -47,7 +47,7 @@ refusal_of_name graph path =
 abbrev pub IsFull : Spaces → ℕ → Space → Type 0
 IsFull free count space.Dir = count ≡ 1024
 IsFull free count space.Nodes = (count < 1024) × NoneFree free.nodes
-IsFull free count space.Meta = (count < 1024) × ((m : ℕ) × IsLeast m free.nodes) × (count % 64 ≡ 0) × NoneFree free.pool
+IsFull free count space.Meta = (count < 1024) × ((m : ℕ) × IsLeastFreeNumber m free.nodes) × (count % 64 ≡ 0) × NoneFree free.pool
 IsFull free count space.Pages = ⊥
 
 pub record LacksRoom (free : Spaces) (graph : Graph) (path : List (List ℕ)) (refusal : Refusal) : Type 0 where
@@ -59,17 +59,17 @@ pub record LacksRoom (free : Spaces) (graph : Graph) (path : List (List ℕ)) (r
   pub full : IsFull free (length (entries_in (graph n).body)) space
 
 -- The directory of the last name has room for a new node under it.
-pub record HasPlace (free : Spaces) (graph : Graph) (path : List (List ℕ)) : Type 0 where
+pub record HasRoomForName (free : Spaces) (graph : Graph) (path : List (List ℕ)) : Type 0 where
   pub n : ℕ
   pub name : List ℕ
   pub place : NameIn graph path n name
   pub m : ℕ
-  pub spare : HasSpare free (length (entries_in (graph n).body)) m
+  pub spare : HasRoomForNode free (length (entries_in (graph n).body)) m
 
 -- how a call answers that makes a node under a path
 abbrev pub MakesNode : Spaces → Graph → Graph → List (List ℕ) → Node → Change → Type 0
 MakesNode free old new path node (change.Changed gone) =
-    (refusal_of_name old path ≡ None) × (gone ≡ None) × MakesName old new path node × HasPlace free old path
+    (refusal_of_name old path ≡ None) × (gone ≡ None) × MakesName old new path node × HasRoomForName free old path
 MakesNode free old new path node (change.No refusal) =
     (refusal_of_name old path ≡ Some refusal) ⊎ ((refusal_of_name old path ≡ None) × LacksRoom free old path refusal)
 MakesNode free old new path node change.Fault = ⊤

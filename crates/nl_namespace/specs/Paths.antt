@@ -31,9 +31,9 @@ Looks graph path (look.No refusal) = walk_refusal graph 0 path ≡ Some refusal
 Looks graph path look.Fault = ⊤
 Looks graph path (look.Lost w f) = ⊤
 
-abbrev pub IfAt : Look → (ℕ → Type 0) → Type 0
-IfAt (look.At n) P = P n
-IfAt look.Missing P = ⊤
-IfAt (look.No refusal) P = ⊤
-IfAt look.Fault P = ⊤
-IfAt (look.Lost w f) P = ⊤
+abbrev pub IfNodeAt : Look → (ℕ → Type 0) → Type 0
+IfNodeAt (look.At n) P = P n
+IfNodeAt look.Missing P = ⊤
+IfNodeAt (look.No refusal) P = ⊤
+IfNodeAt look.Fault P = ⊤
+IfNodeAt (look.Lost w f) P = ⊤

@@ -17,7 +17,7 @@ pub record InDirectory {D : Type 0} (g : Ghosts D) (s : D) (p : Pages) (n : ℕ)
   pub is_dir : rec.kind ≡ Dir
   pub named : entry_named (running_on g s p) rec name ≡ entry
 
-abbrev pub Steps : {D : Type 0} → Ghosts D → D → Pages → ℕ → List ℕ → Step → Type 0
-Steps g s p n name (step.To m) = (e : EntryRec) × InDirectory g s p n name (Some e) × (e.ino ≡ m)
-Steps g s p n name step.Missing = InDirectory g s p n name None
-Steps g s p n name step.File = (rec : InodeRec) × IsNodeOf g s p n rec × (rec.kind ≡ File)
+abbrev pub StepsInto : {D : Type 0} → Ghosts D → D → Pages → ℕ → List ℕ → Step → Type 0
+StepsInto g s p n name (step.To m) = (e : EntryRec) × InDirectory g s p n name (Some e) × (e.ino ≡ m)
+StepsInto g s p n name step.Missing = InDirectory g s p n name None
+StepsInto g s p n name step.File = (rec : InodeRec) × IsNodeOf g s p n rec × (rec.kind ≡ File)

@@ -1,11 +1,11 @@
 //! The calls that change names, each led to the function that does it.
-ghost use Rattle.nl_dir.specs.Directory.{HasRoomFor};
+ghost use Rattle.nl_dir.specs.Directory.{HasRoomForDirty};
 ghost use Rattle.nl_meta.specs.Nodes.{graph_of};
-ghost use Rattle.nl_namespace.specs.Calls.{ChangesNames, HasNames, IsOfNames};
-ghost use Rattle.nl_namespace.specs.Changing.{FreeFits, Leaves};
+ghost use Rattle.nl_namespace.specs.Calls.{ChangesNames, PathsHaveNames, IsOfNames};
+ghost use Rattle.nl_namespace.specs.Changing.{FreeFits, ChangeLeaves};
 ghost use Rattle.nl_namespace.specs.Reading.{change_stop};
-ghost use Rattle.nl_meta_running.specs.Reading.{Reads};
-ghost use Rattle.nl_meta_running.specs.Running.{Runs, running_on};
+ghost use Rattle.nl_meta_running.specs.Reading.{ReadsExplainStop};
+ghost use Rattle.nl_meta_running.specs.Running.{RunningIsRight, running_on};
 
 use crate::answer::Change;
 use crate::making::make;
@@ -26,16 +26,16 @@ pub fn change<D: VirtualPages>(
     call: &Call,
 ) -> Change
     requires formed { D.formed device.old }
-    requires runs { Runs D.Counts device.old meta.old }
+    requires runs { RunningIsRight D.Counts device.old meta.old }
     requires free { FreeFits D.Counts device.old meta.old nodes.old }
-    requires room { HasRoomFor 8 meta.old }
-    requires names { HasNames call.now }
+    requires room { HasRoomForDirty 8 meta.old }
+    requires names { PathsHaveNames call.now }
     requires of_names { IsOfNames call.now }
     ensures formed { D.formed device.new }
     ensures answer { ChangesNames nodes.old (graph_of (D.shape device.old) (running_on D.Counts device.old meta.old))
         (graph_of (D.shape device.new) (running_on D.Counts device.new meta.new)) call.now result }
-    ensures left { Leaves D.Counts device.old meta.old nodes.old device.new meta.new nodes.new result }
-    ensures reads { Reads D.Counts device.old device.new (change_stop result) }
+    ensures left { ChangeLeaves D.Counts device.old meta.old nodes.old device.new meta.new nodes.new result }
+    ensures reads { ReadsExplainStop D.Counts device.old device.new (change_stop result) }
 {
     match call {
         Call::Mkdir(path) => make(device, meta, nodes, path, Kind::Dir),

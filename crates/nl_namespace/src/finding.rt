@@ -1,8 +1,8 @@
 //! What stands at a path: the directory that has its last name, the entry, and the node that it names.
 ghost use Rattle.std.specs.Prelude.{◌≡◌, ◌≢◌, [], IfOk};
-ghost use Rattle.nl_namespace.specs.Finding.{IfFound, IsFound};
-ghost use Rattle.nl_meta_running.specs.Reading.{Reads, stop_of};
-ghost use Rattle.nl_meta_running.specs.Running.{Runs, RunsOn};
+ghost use Rattle.nl_namespace.specs.Finding.{FoundIsResident, IsFoundName};
+ghost use Rattle.nl_meta_running.specs.Reading.{ReadsExplainStop, stop_of};
+ghost use Rattle.nl_meta_running.specs.Running.{RunningIsRight, PreservesRunning};
 
 use crate::place::{Place, Spot, locate};
 use nl_field::{EntryRec, InodeRec};
@@ -38,13 +38,13 @@ pub(crate) fn find_node<D: VirtualPages>(
     path: &Path,
 ) -> Result<Found, Stop>
     requires formed { D.formed device.old }
-    requires runs { Runs D.Counts device.old meta.old }
+    requires runs { RunningIsRight D.Counts device.old meta.old }
     requires not_root { path.now ≢ [] }
     ensures formed { D.formed device.new }
-    ensures found { IfOk result (IsFound D.Counts device.old meta.old path.now) }
-    ensures held { IfOk result (IfFound D.Counts device.old meta.old meta.new) }
-    ensures kept { RunsOn D.Counts device.old meta.old device.new meta.new }
-    ensures reads { Reads D.Counts device.old device.new (stop_of result) }
+    ensures found { IfOk result (IsFoundName D.Counts device.old meta.old path.now) }
+    ensures held { IfOk result (FoundIsResident D.Counts device.old meta.old meta.new) }
+    ensures kept { PreservesRunning D.Counts device.old meta.old device.new meta.new }
+    ensures reads { ReadsExplainStop D.Counts device.old device.new (stop_of result) }
 {
     match locate(device, meta, nodes, path) {
         Ok(Spot::At(place)) => {

@@ -1,8 +1,8 @@
 //! What is free for a new node or a new page of a directory, and what there is not enough of.
 ghost use Rattle.std.specs.Prelude.{◌≡◌, ◌≤◌, IfErr, IfOk, MatchBool, MatchOption};
-ghost use Rattle.nl_inode.specs.Free.{IsLeast, NoneFree};
+ghost use Rattle.nl_inode.specs.Free.{IsLeastFreeNumber, NoneFree};
 ghost use Rattle.nl_namespace.specs.Entering.{HasFreeAddress};
-ghost use Rattle.nl_namespace.specs.Making.{HasSpare};
+ghost use Rattle.nl_namespace.specs.Making.{HasRoomForNode};
 ghost use Rattle.nl_namespace.specs.Naming.{IsFull};
 
 use nl_inode::Nodes;
@@ -13,7 +13,7 @@ const MOST: u64 = 1024;
 
 /// The least free node, which stays free.
 pub(crate) fn least_node(nodes: &mut Nodes) -> Option<u32>
-    ensures least { MatchOption result (NoneFree nodes.old.nodes) (λ n. IsLeast n nodes.old.nodes) }
+    ensures least { MatchOption result (NoneFree nodes.old.nodes) (λ n. IsLeastFreeNumber n nodes.old.nodes) }
     ensures same { nodes.new ≡ nodes.old }
 {
     let least = nodes.take_node();
@@ -40,7 +40,7 @@ pub(crate) fn has_address(nodes: &mut Nodes) -> bool
 /// The least free node, where a directory of so many entries has room for it; or what there is not enough of.
 pub(crate) fn room_for(nodes: &mut Nodes, count: u64) -> Result<u32, Space>
     requires { count ≤ 1024 }
-    ensures spare { IfOk result (HasSpare nodes.old count) }
+    ensures spare { IfOk result (HasRoomForNode nodes.old count) }
     ensures full { IfErr result (IsFull nodes.old count) }
     ensures same { nodes.new ≡ nodes.old }
 {

@@ -1,8 +1,8 @@
 //! The pages of a directory are made resident.
 ghost use Rattle.std.specs.Prelude.{IfOk};
 ghost use Rattle.nl_namespace.specs.Holding.{HasEntries};
-ghost use Rattle.nl_meta_running.specs.Reading.{Reads, stop_of};
-ghost use Rattle.nl_meta_running.specs.Running.{IsDirectoryOf, Runs, RunsOn};
+ghost use Rattle.nl_meta_running.specs.Reading.{ReadsExplainStop, stop_of};
+ghost use Rattle.nl_meta_running.specs.Running.{IsDirectoryOf, RunningIsRight, PreservesRunning};
 
 use nl_field::InodeRec;
 use nl_iface::VirtualPages;
@@ -16,11 +16,11 @@ pub fn hold_entries<D: VirtualPages>(
     rec: &InodeRec,
 ) -> Result<(), Stop>
     requires formed { D.formed device.old }
-    requires runs { Runs D.Counts device.old meta.old }
+    requires runs { RunningIsRight D.Counts device.old meta.old }
     requires directory { IsDirectoryOf D.Counts device.old meta.old rec.now }
     ensures formed { D.formed device.new }
-    ensures kept { RunsOn D.Counts device.old meta.old device.new meta.new }
-    ensures reads { Reads D.Counts device.old device.new (stop_of result) }
+    ensures kept { PreservesRunning D.Counts device.old meta.old device.new meta.new }
+    ensures reads { ReadsExplainStop D.Counts device.old device.new (stop_of result) }
     ensures there { IfOk result (λ u. HasEntries D.Counts device.old meta.old meta.new rec.now) }
 {
     let rows = rec.size.div_ceil(64) as usize;

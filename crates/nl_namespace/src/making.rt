@@ -1,17 +1,17 @@
 //! An empty directory, or an empty file, is made under a path.
 ghost use Rattle.std.specs.Prelude.{◌≡◌, ◌≢◌, ◌-◌, ◌&&◌, nat_le, None, Some, IsTrue, length, slice_get};
-ghost use Rattle.nl_dir.specs.Directory.{HasRoomFor};
+ghost use Rattle.nl_dir.specs.Directory.{HasRoomForDirty};
 ghost use Rattle.nl_meta.specs.Nodes.{graph_of};
 ghost use Rattle.nl_tree.specs.Calls.{AreNames};
-ghost use Rattle.nl_namespace.specs.Changing.{FreeFits, Leaves};
+ghost use Rattle.nl_namespace.specs.Changing.{FreeFits, ChangeLeaves};
 ghost use Rattle.nl_namespace.specs.Making.{empty_node};
 ghost use Rattle.nl_field.specs.Names.{is_name};
 ghost use Rattle.nl_field.specs.Numbers.{max_name};
 ghost use Rattle.nl_namespace.specs.Naming.{MakesNode, refusal_of_name};
-ghost use Rattle.nl_namespace.specs.Placing.{IsHeld, IsPlace};
+ghost use Rattle.nl_namespace.specs.Placing.{DirectoryIsResident, IsPlaceOfPath};
 ghost use Rattle.nl_namespace.specs.Reading.{change_stop};
-ghost use Rattle.nl_meta_running.specs.Reading.{Reads};
-ghost use Rattle.nl_meta_running.specs.Running.{Runs, running_on};
+ghost use Rattle.nl_meta_running.specs.Reading.{ReadsExplainStop};
+ghost use Rattle.nl_meta_running.specs.Running.{RunningIsRight, running_on};
 
 use crate::answer::Change;
 use crate::free::room_for;
@@ -33,16 +33,16 @@ pub fn make<D: VirtualPages>(
     kind: Kind,
 ) -> Change
     requires formed { D.formed device.old }
-    requires runs { Runs D.Counts device.old meta.old }
+    requires runs { RunningIsRight D.Counts device.old meta.old }
     requires free { FreeFits D.Counts device.old meta.old nodes.old }
-    requires room { HasRoomFor 8 meta.old }
+    requires room { HasRoomForDirty 8 meta.old }
     requires names { AreNames path.now }
     requires used { kind ≢ Kind.Unused }
     ensures formed { D.formed device.new }
     ensures answer { MakesNode nodes.old (graph_of (D.shape device.old) (running_on D.Counts device.old meta.old))
         (graph_of (D.shape device.new) (running_on D.Counts device.new meta.new)) path.now (empty_node kind) result }
-    ensures left { Leaves D.Counts device.old meta.old nodes.old device.new meta.new nodes.new result }
-    ensures reads { Reads D.Counts device.old device.new (change_stop result) }
+    ensures left { ChangeLeaves D.Counts device.old meta.old nodes.old device.new meta.new nodes.new result }
+    ensures reads { ReadsExplainStop D.Counts device.old device.new (change_stop result) }
 {
     if is_long(path.names()) {
         return Change::No(Refusal::Enametoolong);
@@ -75,21 +75,21 @@ fn make_at<D: VirtualPages>(
     kind: Kind,
 ) -> Change
     requires formed { D.formed device.old }
-    requires runs { Runs D.Counts device.old meta.old }
+    requires runs { RunningIsRight D.Counts device.old meta.old }
     requires free { FreeFits D.Counts device.old meta.old nodes.old }
-    requires room { HasRoomFor 8 meta.old }
+    requires room { HasRoomForDirty 8 meta.old }
     requires named { IsTrue (is_name name.now && nat_le (length name.now) max_name) }
     requires last { slice_get path.now (length path.now - 1) ≡ Some name.now }
-    requires place { IsPlace D.Counts device.old meta.old path.now place.now }
-    requires held { IsHeld D.Counts device.old meta.old meta.old place.now.dir place.now.rec }
+    requires place { IsPlaceOfPath D.Counts device.old meta.old path.now place.now }
+    requires held { DirectoryIsResident D.Counts device.old meta.old meta.old place.now.dir place.now.rec }
     requires absent { place.now.entry ≡ None }
     requires unrefused { refusal_of_name (graph_of (D.shape device.old) (running_on D.Counts device.old meta.old)) path.now ≡ None }
     requires used { kind ≢ Kind.Unused }
     ensures formed { D.formed device.new }
     ensures answer { MakesNode nodes.old (graph_of (D.shape device.old) (running_on D.Counts device.old meta.old))
         (graph_of (D.shape device.new) (running_on D.Counts device.new meta.new)) path.now (empty_node kind) result }
-    ensures left { Leaves D.Counts device.old meta.old nodes.old device.new meta.new nodes.new result }
-    ensures reads { Reads D.Counts device.old device.new (change_stop result) }
+    ensures left { ChangeLeaves D.Counts device.old meta.old nodes.old device.new meta.new nodes.new result }
+    ensures reads { ReadsExplainStop D.Counts device.old device.new (change_stop result) }
 {
     match room_for(nodes, place.rec.size) {
         Ok(ino) => match hold(device, meta, 67 + ino / 16) {

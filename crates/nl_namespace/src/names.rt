@@ -4,8 +4,8 @@ ghost use Rattle.nl_field.specs.Numbers.{max_bytes};
 ghost use Rattle.nl_meta.specs.Nodes.{entries_of_inode, graph_of};
 ghost use Rattle.nl_namespace.specs.Listing.{IfListed, IsListing, ListsNames, PrintsPlace, kind_mark};
 ghost use Rattle.nl_namespace.specs.Reading.{listing_stop};
-ghost use Rattle.nl_meta_running.specs.Reading.{Reads, stop_of};
-ghost use Rattle.nl_meta_running.specs.Running.{IsDirectoryOf, IsDirectoryAt, Runs, RunsOn, running_on};
+ghost use Rattle.nl_meta_running.specs.Reading.{ReadsExplainStop, stop_of};
+ghost use Rattle.nl_meta_running.specs.Running.{IsDirectoryOf, IsDirectoryAt, RunningIsRight, PreservesRunning, running_on};
 
 use crate::answer::Listing;
 use crate::hold::hold_entries;
@@ -28,12 +28,12 @@ pub fn list<D: VirtualPages>(
     out: &mut ReplyBuf,
 ) -> Listing
     requires formed { D.formed device.old }
-    requires runs { Runs D.Counts device.old meta.old }
+    requires runs { RunningIsRight D.Counts device.old meta.old }
     requires directory { IsDirectoryAt D.Counts device.old meta.old ino }
     ensures formed { D.formed device.new }
     ensures listed { IfListed result (λ n. ListsNames D.Counts device.old meta.old ino n out.new) }
-    ensures kept { RunsOn D.Counts device.old meta.old device.new meta.new }
-    ensures reads { Reads D.Counts device.old device.new (listing_stop result) }
+    ensures kept { PreservesRunning D.Counts device.old meta.old device.new meta.new }
+    ensures reads { ReadsExplainStop D.Counts device.old device.new (listing_stop result) }
 {
     out.clear();
     match node(device, meta, nodes, ino) {
@@ -56,14 +56,14 @@ fn print_all<D: VirtualPages>(
     out: &mut ReplyBuf,
 ) -> Result<u32, Stop>
     requires formed { D.formed device.old }
-    requires runs { Runs D.Counts device.old meta.old }
+    requires runs { RunningIsRight D.Counts device.old meta.old }
     requires directory { IsDirectoryOf D.Counts device.old meta.old rec.now }
     requires nothing { out.old ≡ [] }
     ensures formed { D.formed device.new }
     ensures listed { IfOk result (λ n. IsListing (graph_of (D.shape device.old) (running_on D.Counts device.old meta.old))
         (entries_of_inode (running_on D.Counts device.old meta.old) rec.now) n out.new) }
-    ensures kept { RunsOn D.Counts device.old meta.old device.new meta.new }
-    ensures reads { Reads D.Counts device.old device.new (stop_of result) }
+    ensures kept { PreservesRunning D.Counts device.old meta.old device.new meta.new }
+    ensures reads { ReadsExplainStop D.Counts device.old device.new (stop_of result) }
 {
     match hold_entries(device, meta, rec) {
         Ok(()) => {}
@@ -98,7 +98,7 @@ fn print_place<D: VirtualPages>(
     out: &mut ReplyBuf,
 ) -> Result<(), Stop>
     requires formed { D.formed device.old }
-    requires runs { Runs D.Counts device.old meta.old }
+    requires runs { RunningIsRight D.Counts device.old meta.old }
     requires directory { IsDirectoryOf D.Counts device.old meta.old rec.now }
     requires below { place < rec.now.size }
     requires room { length out.old + 57 ≤ max_bytes }
@@ -106,8 +106,8 @@ fn print_place<D: VirtualPages>(
     ensures printed { IfOk result (λ u. PrintsPlace (graph_of (D.shape device.old) (running_on D.Counts device.old meta.old))
         (entries_of_inode (running_on D.Counts device.old meta.old) rec.now) place out.old out.new) }
     ensures short { IfOk result (λ u. length out.new ≤ length out.old + 57) }
-    ensures kept { RunsOn D.Counts device.old meta.old device.new meta.new }
-    ensures reads { Reads D.Counts device.old device.new (stop_of result) }
+    ensures kept { PreservesRunning D.Counts device.old meta.old device.new meta.new }
+    ensures reads { ReadsExplainStop D.Counts device.old device.new (stop_of result) }
 {
     hold_entries(device, meta, rec)?;
     let entry = entry_at(rec, meta, place);

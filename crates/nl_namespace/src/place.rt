@@ -1,8 +1,8 @@
 //! Where the last name of a path stands, or would stand.
 ghost use Rattle.std.specs.Prelude.{◌≡◌, ◌≢◌, [], IfOk};
-ghost use Rattle.nl_namespace.specs.Placing.{Enters, IfEntered, IfHeld, IsParent, IsSpot};
-ghost use Rattle.nl_meta_running.specs.Reading.{Reads, stop_of};
-ghost use Rattle.nl_meta_running.specs.Running.{IsUsed, Runs, RunsOn};
+ghost use Rattle.nl_namespace.specs.Placing.{Enters, IfEntered, IfHeld, IsParent, IsNameSpot};
+ghost use Rattle.nl_meta_running.specs.Reading.{ReadsExplainStop, stop_of};
+ghost use Rattle.nl_meta_running.specs.Running.{IsUsedNode, RunningIsRight, PreservesRunning};
 
 use crate::hold::hold_entries;
 use crate::walk::{Step, follow};
@@ -44,13 +44,13 @@ pub(crate) fn locate<D: VirtualPages>(
     path: &Path,
 ) -> Result<Spot, Stop>
     requires formed { D.formed device.old }
-    requires runs { Runs D.Counts device.old meta.old }
+    requires runs { RunningIsRight D.Counts device.old meta.old }
     requires not_root { path.now ≢ [] }
     ensures formed { D.formed device.new }
-    ensures spot { IfOk result (IsSpot D.Counts device.old meta.old path.now) }
+    ensures spot { IfOk result (IsNameSpot D.Counts device.old meta.old path.now) }
     ensures held { IfOk result (IfHeld D.Counts device.old meta.old meta.new) }
-    ensures kept { RunsOn D.Counts device.old meta.old device.new meta.new }
-    ensures reads { Reads D.Counts device.old device.new (stop_of result) }
+    ensures kept { PreservesRunning D.Counts device.old meta.old device.new meta.new }
+    ensures reads { ReadsExplainStop D.Counts device.old device.new (stop_of result) }
 {
     match walk_to_parent(device, meta, nodes, path) {
         Ok(Parent::At(dir)) => {
@@ -74,12 +74,12 @@ fn walk_to_parent<D: VirtualPages>(
     path: &Path,
 ) -> Result<Parent, Stop>
     requires formed { D.formed device.old }
-    requires runs { Runs D.Counts device.old meta.old }
+    requires runs { RunningIsRight D.Counts device.old meta.old }
     requires not_root { path.now ≢ [] }
     ensures formed { D.formed device.new }
     ensures parent { IfOk result (IsParent D.Counts device.old meta.old path.now) }
-    ensures kept { RunsOn D.Counts device.old meta.old device.new meta.new }
-    ensures reads { Reads D.Counts device.old device.new (stop_of result) }
+    ensures kept { PreservesRunning D.Counts device.old meta.old device.new meta.new }
+    ensures reads { ReadsExplainStop D.Counts device.old device.new (stop_of result) }
 {
     let mut at = 0;
     for i in 0..path.len() - 1 {
@@ -102,13 +102,13 @@ fn enter<D: VirtualPages>(
     name: &[u8],
 ) -> Result<Option<Place>, Stop>
     requires formed { D.formed device.old }
-    requires runs { Runs D.Counts device.old meta.old }
-    requires used { IsUsed D.Counts device.old meta.old dir }
+    requires runs { RunningIsRight D.Counts device.old meta.old }
+    requires used { IsUsedNode D.Counts device.old meta.old dir }
     ensures formed { D.formed device.new }
     ensures entered { IfOk result (Enters D.Counts device.old meta.old dir name.now) }
     ensures held { IfOk result (IfEntered D.Counts device.old meta.old meta.new) }
-    ensures kept { RunsOn D.Counts device.old meta.old device.new meta.new }
-    ensures reads { Reads D.Counts device.old device.new (stop_of result) }
+    ensures kept { PreservesRunning D.Counts device.old meta.old device.new meta.new }
+    ensures reads { ReadsExplainStop D.Counts device.old device.new (stop_of result) }
 {
     let rec = match node(device, meta, nodes, dir) {
         Ok(rec) => rec,

@@ -1,14 +1,14 @@
 //! A file, or an empty directory, loses its name.
 ghost use Rattle.std.specs.Prelude.{◌≡◌, ◌≢◌, Some, false};
-ghost use Rattle.nl_dir.specs.Directory.{HasRoomFor};
+ghost use Rattle.nl_dir.specs.Directory.{HasRoomForDirty};
 ghost use Rattle.nl_meta.specs.Nodes.{graph_of};
 ghost use Rattle.nl_tree.specs.Step.{is_too_long};
-ghost use Rattle.nl_namespace.specs.Changing.{FreeFits, Leaves};
+ghost use Rattle.nl_namespace.specs.Changing.{FreeFits, ChangeLeaves};
 ghost use Rattle.nl_namespace.specs.Naming.{RemovesName, refusal_of_record, root_refusal};
-ghost use Rattle.nl_namespace.specs.Placing.{IsHeld, IsPlace};
+ghost use Rattle.nl_namespace.specs.Placing.{DirectoryIsResident, IsPlaceOfPath};
 ghost use Rattle.nl_namespace.specs.Reading.{change_stop};
-ghost use Rattle.nl_meta_running.specs.Reading.{Reads};
-ghost use Rattle.nl_meta_running.specs.Running.{Runs, running_on};
+ghost use Rattle.nl_meta_running.specs.Reading.{ReadsExplainStop};
+ghost use Rattle.nl_meta_running.specs.Running.{RunningIsRight, running_on};
 
 use crate::answer::Change;
 use crate::entering::take_out;
@@ -30,15 +30,15 @@ pub fn remove<D: VirtualPages>(
     kind: Kind,
 ) -> Change
     requires formed { D.formed device.old }
-    requires runs { Runs D.Counts device.old meta.old }
+    requires runs { RunningIsRight D.Counts device.old meta.old }
     requires free { FreeFits D.Counts device.old meta.old nodes.old }
-    requires room { HasRoomFor 8 meta.old }
+    requires room { HasRoomForDirty 8 meta.old }
     requires used { kind ≢ Kind.Unused }
     ensures formed { D.formed device.new }
     ensures answer { RemovesName kind (graph_of (D.shape device.old) (running_on D.Counts device.old meta.old))
         (graph_of (D.shape device.new) (running_on D.Counts device.new meta.new)) path.now result }
-    ensures left { Leaves D.Counts device.old meta.old nodes.old device.new meta.new nodes.new result }
-    ensures reads { Reads D.Counts device.old device.new (change_stop result) }
+    ensures left { ChangeLeaves D.Counts device.old meta.old nodes.old device.new meta.new nodes.new result }
+    ensures reads { ReadsExplainStop D.Counts device.old device.new (change_stop result) }
 {
     if is_long(path.names()) {
         return Change::No(Refusal::Enametoolong);
@@ -68,19 +68,19 @@ fn remove_at<D: VirtualPages>(
     kind: Kind,
 ) -> Change
     requires formed { D.formed device.old }
-    requires runs { Runs D.Counts device.old meta.old }
+    requires runs { RunningIsRight D.Counts device.old meta.old }
     requires free { FreeFits D.Counts device.old meta.old nodes.old }
-    requires room { HasRoomFor 8 meta.old }
-    requires place { IsPlace D.Counts device.old meta.old path.now place.now }
-    requires held { IsHeld D.Counts device.old meta.old meta.old place.now.dir place.now.rec }
+    requires room { HasRoomForDirty 8 meta.old }
+    requires place { IsPlaceOfPath D.Counts device.old meta.old path.now place.now }
+    requires held { DirectoryIsResident D.Counts device.old meta.old meta.old place.now.dir place.now.rec }
     requires there { place.now.entry ≡ Some entry.now }
     requires short { is_too_long path.now ≡ false }
     requires used { kind ≢ Kind.Unused }
     ensures formed { D.formed device.new }
     ensures answer { RemovesName kind (graph_of (D.shape device.old) (running_on D.Counts device.old meta.old))
         (graph_of (D.shape device.new) (running_on D.Counts device.new meta.new)) path.now result }
-    ensures left { Leaves D.Counts device.old meta.old nodes.old device.new meta.new nodes.new result }
-    ensures reads { Reads D.Counts device.old device.new (change_stop result) }
+    ensures left { ChangeLeaves D.Counts device.old meta.old nodes.old device.new meta.new nodes.new result }
+    ensures reads { ReadsExplainStop D.Counts device.old device.new (change_stop result) }
 {
     match node(device, meta, nodes, entry.ino) {
         Ok(target) => match refused_target(kind, &target) {

@@ -1,17 +1,17 @@
 //! A file or a directory gets another path.
 ghost use Rattle.std.specs.Prelude.{◌≡◌, ◌≢◌, ◌≤◌, MatchBool, MatchOption, false};
-ghost use Rattle.nl_dir.specs.Directory.{HasRoomFor};
+ghost use Rattle.nl_dir.specs.Directory.{HasRoomForDirty};
 ghost use Rattle.nl_meta.specs.Nodes.{graph_of};
 ghost use Rattle.nl_tree.specs.Calls.{AreNames};
 ghost use Rattle.nl_tree.specs.Tree.{is_at_or_under, paths_eq};
-ghost use Rattle.nl_namespace.specs.Changing.{FreeFits, Leaves};
+ghost use Rattle.nl_namespace.specs.Changing.{FreeFits, ChangeLeaves};
 ghost use Rattle.nl_namespace.specs.Entering.{HasNamed};
-ghost use Rattle.nl_namespace.specs.Finding.{FitsAfter, IsThere, MovesIn};
+ghost use Rattle.nl_namespace.specs.Finding.{FitsAfter, NameIsThere, MovesIn};
 ghost use Rattle.nl_namespace.specs.Moving.{AreAllowed, CanTake, LacksRoomIn, RenamesName, refusal_over_record};
-ghost use Rattle.nl_namespace.specs.Placing.{IsHeld};
+ghost use Rattle.nl_namespace.specs.Placing.{DirectoryIsResident};
 ghost use Rattle.nl_namespace.specs.Reading.{change_stop};
-ghost use Rattle.nl_meta_running.specs.Reading.{Reads};
-ghost use Rattle.nl_meta_running.specs.Running.{Runs, running_on};
+ghost use Rattle.nl_meta_running.specs.Reading.{ReadsExplainStop};
+ghost use Rattle.nl_meta_running.specs.Running.{RunningIsRight, running_on};
 ghost use Rattle.nl_field.specs.declared.inode.Kind.TheVariants.{Dir};
 
 use crate::answer::Change;
@@ -37,15 +37,15 @@ pub fn rename<D: VirtualPages>(
     to: &Path,
 ) -> Change
     requires formed { D.formed device.old }
-    requires runs { Runs D.Counts device.old meta.old }
+    requires runs { RunningIsRight D.Counts device.old meta.old }
     requires free { FreeFits D.Counts device.old meta.old nodes.old }
-    requires room { HasRoomFor 8 meta.old }
+    requires room { HasRoomForDirty 8 meta.old }
     requires names { AreNames to.now }
     ensures formed { D.formed device.new }
     ensures answer { RenamesName nodes.old (graph_of (D.shape device.old) (running_on D.Counts device.old meta.old))
         (graph_of (D.shape device.new) (running_on D.Counts device.new meta.new)) from.now to.now result }
-    ensures left { Leaves D.Counts device.old meta.old nodes.old device.new meta.new nodes.new result }
-    ensures reads { Reads D.Counts device.old device.new (change_stop result) }
+    ensures left { ChangeLeaves D.Counts device.old meta.old nodes.old device.new meta.new nodes.new result }
+    ensures reads { ReadsExplainStop D.Counts device.old device.new (change_stop result) }
 {
     if is_long(from.names()) || is_long(to.names()) {
         return Change::No(Refusal::Enametoolong);
@@ -80,20 +80,20 @@ fn rename_to<D: VirtualPages>(
     old: &There,
 ) -> Change
     requires formed { D.formed device.old }
-    requires runs { Runs D.Counts device.old meta.old }
+    requires runs { RunningIsRight D.Counts device.old meta.old }
     requires free { FreeFits D.Counts device.old meta.old nodes.old }
-    requires room { HasRoomFor 8 meta.old }
+    requires room { HasRoomForDirty 8 meta.old }
     requires names { AreNames to.now }
-    requires there { IsThere D.Counts device.old meta.old from.now old.now }
-    requires held { IsHeld D.Counts device.old meta.old meta.old old.now.dir old.now.rec }
+    requires there { NameIsThere D.Counts device.old meta.old from.now old.now }
+    requires held { DirectoryIsResident D.Counts device.old meta.old meta.old old.now.dir old.now.rec }
     requires paths { AreAllowed from.now to.now }
     requires other { paths_eq from.now to.now ≡ false }
     requires not_under { old.now.node.kind ≡ Dir → is_at_or_under from.now to.now ≡ false }
     ensures formed { D.formed device.new }
     ensures answer { RenamesName nodes.old (graph_of (D.shape device.old) (running_on D.Counts device.old meta.old))
         (graph_of (D.shape device.new) (running_on D.Counts device.new meta.new)) from.now to.now result }
-    ensures left { Leaves D.Counts device.old meta.old nodes.old device.new meta.new nodes.new result }
-    ensures reads { Reads D.Counts device.old device.new (change_stop result) }
+    ensures left { ChangeLeaves D.Counts device.old meta.old nodes.old device.new meta.new nodes.new result }
+    ensures reads { ReadsExplainStop D.Counts device.old device.new (change_stop result) }
 {
     match find_node(device, meta, nodes, to) {
         Ok(Found::At(over)) => match refused_over(old.node.kind, &over.node) {

@@ -1,11 +1,11 @@
 //! A path is walked from node 0, name by name.
 ghost use Rattle.std.specs.Prelude.{◌≡◌, IfOk};
 ghost use Rattle.nl_meta.specs.Nodes.{graph_of};
-ghost use Rattle.nl_namespace.specs.Paths.{IfAt, Looks};
+ghost use Rattle.nl_namespace.specs.Paths.{IfNodeAt, Looks};
 ghost use Rattle.nl_namespace.specs.Reading.{look_stop};
-ghost use Rattle.nl_meta_running.specs.Running.{IsUsed, Runs, RunsOn, running_on};
-ghost use Rattle.nl_namespace.specs.Stepping.{Steps};
-ghost use Rattle.nl_meta_running.specs.Reading.{Reads, stop_of};
+ghost use Rattle.nl_meta_running.specs.Running.{IsUsedNode, RunningIsRight, PreservesRunning, running_on};
+ghost use Rattle.nl_namespace.specs.Stepping.{StepsInto};
+ghost use Rattle.nl_meta_running.specs.Reading.{ReadsExplainStop, stop_of};
 
 use crate::answer::Look;
 use crate::hold::hold_entries;
@@ -30,12 +30,12 @@ pub(crate) enum Step {
 /// page that does not hold the wanted sequence number.
 pub fn look<D: VirtualPages>(device: &mut D, meta: &mut Meta, nodes: &Nodes, path: &Path) -> Look
     requires formed { D.formed device.old }
-    requires runs { Runs D.Counts device.old meta.old }
+    requires runs { RunningIsRight D.Counts device.old meta.old }
     ensures formed { D.formed device.new }
     ensures answer { Looks (graph_of (D.shape device.old) (running_on D.Counts device.old meta.old)) path.now result }
-    ensures used { IfAt result (IsUsed D.Counts device.old meta.old) }
-    ensures kept { RunsOn D.Counts device.old meta.old device.new meta.new }
-    ensures reads { Reads D.Counts device.old device.new (look_stop result) }
+    ensures used { IfNodeAt result (IsUsedNode D.Counts device.old meta.old) }
+    ensures kept { PreservesRunning D.Counts device.old meta.old device.new meta.new }
+    ensures reads { ReadsExplainStop D.Counts device.old device.new (look_stop result) }
 {
     let count = path.len();
     let mut at = 0;
@@ -66,12 +66,12 @@ pub(crate) fn follow<D: VirtualPages>(
     name: &[u8],
 ) -> Result<Step, Stop>
     requires formed { D.formed device.old }
-    requires runs { Runs D.Counts device.old meta.old }
-    requires used { IsUsed D.Counts device.old meta.old at }
+    requires runs { RunningIsRight D.Counts device.old meta.old }
+    requires used { IsUsedNode D.Counts device.old meta.old at }
     ensures formed { D.formed device.new }
-    ensures answer { IfOk result (Steps D.Counts device.old meta.old at name.now) }
-    ensures kept { RunsOn D.Counts device.old meta.old device.new meta.new }
-    ensures reads { Reads D.Counts device.old device.new (stop_of result) }
+    ensures answer { IfOk result (StepsInto D.Counts device.old meta.old at name.now) }
+    ensures kept { PreservesRunning D.Counts device.old meta.old device.new meta.new }
+    ensures reads { ReadsExplainStop D.Counts device.old device.new (stop_of result) }
 {
     let rec = node(device, meta, nodes, at)?;
     match rec.kind {

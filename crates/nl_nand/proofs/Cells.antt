@@ -2,7 +2,7 @@
 use Rattle.std.proofs.Common.{◌≡◌, ◌⊎◌, inl, inr, ℕ, zero, suc, ◌+◌, ◌-◌, ◌<◌, ◌≤◌, List, [], ◌∷◌, ◌++◌, length, get_or, take, drop, replicate, set, refl, sym, ◌∙◌, ap, arith, append_assoc, length-append, length-drop, take-append-drop}
 use Rattle.std.proofs.lemmas.List.{get_or_append_left, get_or-append_right, get_or-take, get_or-drop, length-take-le, take_at, drop_at, map-append, map-set, take-map, drop-map, drop-drop, length-map, length-set, get_or-set_same, get_or-set_other, set-get_or, get_or-replicate, length-replicate}
 use Rattle.nl_field.specs.Page.{Page, erased, page_at}
-use Rattle.nl_nand.specs.Nand.{SameShape, Filled}
+use Rattle.nl_nand.specs.Nand.{SameImageShape, Filled}
 use Rattle.nl_nand.specs.declared.geometry.Geometry.{Geometry}
 use Rattle.nl_nand.specs.declared.cell.Cell.{Cell}
 use Rattle.nl_nand.specs.declared.cell.Cell.TheVariants as cell
@@ -32,7 +32,7 @@ module _ (g : Geometry) (cells : List Cell) (page : ℕ) (x : Cell) (within : pa
   set_other p (inl below) = ap (λ l. get_or l p erased) mapped ∙ get_or-set_other (pages_of cells) page p (page_of x) erased (λ e. absurd (omega (arith, below, e)))
   set_other p (inr above) = ap (λ l. get_or l p erased) mapped ∙ get_or-set_other (pages_of cells) page p (page_of x) erased (λ e. absurd (omega (arith, above, e)))
 
-  set_shape : SameShape (image_of g cells) (image_of g next)
+  set_shape : SameImageShape (image_of g cells) (image_of g next)
   set_shape = record { same_blocks = refl; same_pages = refl; same_length = length-map next page_of ∙ length-set cells page x ∙ sym (length-map cells page_of) }
 
   set_inside : (p : ℕ) → page ≤ p → p < page + 1 → page_at (image_of g next) p ≡ page_of x

@@ -7,7 +7,7 @@ use Rattle.nl_nand.specs.declared.cell.Cell.{Cell}
 use Rattle.nl_nand.specs.declared.cell.Cell.TheVariants as cell
 use Rattle.nl_nand.specs.declared.record.Entry.{Entry}
 use Rattle.nl_nand.specs.Nand.{IsBlank}
-use Rattle.nl_nand.specs.Record.{page_of, image_of, logged, is_history, LeftBy}
+use Rattle.nl_nand.specs.Record.{page_of, image_of, logged, is_history, IsCrashState}
 use Rattle.nl_nand.specs.declared.interrupted.Interrupted.{Interrupted}
 use Rattle.nl_nand.specs.ImageLaws.{image_from}
 use Rattle.nl_nand.proofs.Cells.{at_map}
@@ -29,12 +29,12 @@ pub fresh_history : (entries : List Entry) (now : Image) (clock : ℕ) → entri
 unfolding is_history
 fresh_history entries now clock none is = subst (λ h. IsTrue (is_history (reverse h) now clock)) (sym none) is
 
-pub fresh_left : (entries : List Entry) (now : Image) (clock m : ℕ) (c : Image) → entries ≡ [] → LeftBy (reverse entries) now clock m c → (m ≡ clock) × (c ≡ now)
-unfolding LeftBy
-fresh_left entries now clock m c none l = subst (λ h. LeftBy (reverse h) now clock m c) none l
+pub fresh_left : (entries : List Entry) (now : Image) (clock m : ℕ) (c : Image) → entries ≡ [] → IsCrashState (reverse entries) now clock m c → (m ≡ clock) × (c ≡ now)
+unfolding IsCrashState
+fresh_left entries now clock m c none l = subst (λ h. IsCrashState (reverse h) now clock m c) none l
 
 pub begun_history : (stopped : Option Interrupted) (entries : List Entry) (now : Image) (clock : ℕ) → stopped ≡ None → entries ≡ [] → IsTrue (is_image now) → IsTrue (is_history (logged stopped clock entries) now clock)
 begun_history stopped entries now clock running none is = subst (λ s. IsTrue (is_history (logged s clock entries) now clock)) (sym running) (fresh_history entries now clock none is)
 
-pub begun_left : (stopped : Option Interrupted) (entries : List Entry) (now : Image) (clock m : ℕ) (c : Image) → stopped ≡ None → entries ≡ [] → LeftBy (logged stopped clock entries) now clock m c → (m ≡ clock) × (c ≡ now)
-begun_left stopped entries now clock m c running none l = fresh_left entries now clock m c none (subst (λ s. LeftBy (logged s clock entries) now clock m c) running l)
+pub begun_left : (stopped : Option Interrupted) (entries : List Entry) (now : Image) (clock m : ℕ) (c : Image) → stopped ≡ None → entries ≡ [] → IsCrashState (logged stopped clock entries) now clock m c → (m ≡ clock) × (c ≡ now)
+begun_left stopped entries now clock m c running none l = fresh_left entries now clock m c none (subst (λ s. IsCrashState (logged s clock entries) now clock m c) running l)

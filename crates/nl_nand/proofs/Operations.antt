@@ -8,7 +8,7 @@ use Rattle.nl_field.specs.CrashStates.{saturated}
 use Rattle.nl_nand.specs.Nand.{Cut, Filled, CrashLeaves}
 use Rattle.nl_nand.specs.Plan.{Plan, cut_at, next_operation, OperationFails, begun}
 use Rattle.nl_nand.specs.Record.{logged, is_history}
-use Rattle.nl_nand.specs.Memory.{contents_of, clock_of, left_of, log_of, plan_of, room_of, Operated}
+use Rattle.nl_nand.specs.Memory.{contents_of, clock_of, memory_crash_states, log_of, plan_of, room_of, Operated}
 use Rattle.nl_nand.specs.declared.record.Entry.{Entry}
 use Rattle.nl_nand.specs.declared.interrupted.Interrupted.{Interrupted}
 use Rattle.nl_nand.specs.declared.stop.Cut.{Cut as How}
@@ -69,7 +69,7 @@ finishes p number is none unlisted (inl some) = absurd (none_not_some (ap (cut_a
 finishes p number is none unlisted (inr listed) = unlisted (subst (Contains p.writes) (sym is) listed)
 
 module _ {m n : MemNand} {low high : ℕ} {value : Page} (noted : Noted (log_of m) (log_of n) (contents_of m) (contents_of n) m.clock n.clock low high value) where
-  crash : CrashLeaves clock_of contents_of left_of low high value m n
+  crash : CrashLeaves clock_of contents_of memory_crash_states low high value m n
   crash = record { later = noted.later; each = noted_each noted; keeps = noted_keeps noted }
 
   -- the operation failed, and changed no page

@@ -3,7 +3,7 @@ use Rattle.std.proofs.Common.{◌≡◌, ◌⊎◌, inl, inr, ⊎_elim, ℕ, zer
 use Rattle.std.proofs.lemmas.Bool.{cases_lt, eqb-true, eq-eqb}
 use Rattle.std.specs.List.{list_all}
 use Rattle.nl_field.specs.Page.{Page, erased, uncorrectable, Image, page_at, is_page, is_image}
-use Rattle.nl_nand.specs.Nand.{SameShape, Filled, Cut}
+use Rattle.nl_nand.specs.Nand.{SameImageShape, Filled, Cut}
 
 and_left : (a b : Bool) → IsTrue (a && b) → IsTrue a
 and_left a b h = search rules
@@ -54,7 +54,7 @@ filled_each {low} {high} filled p = elim (cases_lt p low) [
 pub filled_cut : {low high : ℕ} {value : Page} {old c : Image} → Filled low high value old c → Cut low high value old c
 filled_cut filled = record { shape = filled.shape; each = filled_each filled }
 
-pub same_shape : (image : Image) → SameShape image image
+pub same_shape : (image : Image) → SameImageShape image image
 same_shape image = record { same_blocks = refl; same_pages = refl; same_length = refl }
 
 -- an operation cut short may have changed nothing

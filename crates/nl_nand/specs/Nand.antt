@@ -20,7 +20,7 @@ pub record ImageOf (geometry : Geometry) (image : Image) : Type 0 where
   pub whole : IsTrue (is_image image)
 
 -- two images have as many blocks and as many pages
-pub record SameShape (old new : Image) : Type 0 where
+pub record SameImageShape (old new : Image) : Type 0 where
   pub same_blocks : new.blocks ≡ old.blocks
   pub same_pages : new.pages ≡ old.pages
   pub same_length : length new.contents ≡ length old.contents
@@ -34,11 +34,11 @@ abbrev pub IsBlank : Image → Type 0
 IsBlank image = (p : ℕ) → page_at image p ≡ erased
 
 -- what a read answers of a page, and what the buffer then has
-abbrev pub Reads : Page → PageBytes → ReadAnswer → Type 0
-Reads page buf read.Erased = page ≡ erased
-Reads page buf read.Written = page ≡ written buf
-Reads page buf read.Uncorrectable = page ≡ uncorrectable
-Reads page buf read.Failed = ⊤
+abbrev pub ReadsMediumPage : Page → PageBytes → ReadAnswer → Type 0
+ReadsMediumPage page buf read.Erased = page ≡ erased
+ReadsMediumPage page buf read.Written = page ≡ written buf
+ReadsMediumPage page buf read.Uncorrectable = page ≡ uncorrectable
+ReadsMediumPage page buf read.Failed = ⊤
 
 -- the page and all later ones of its block are erased
 pub record CanProgram (image : Image) (page : ℕ) : Type 0 where
@@ -49,21 +49,21 @@ pub record CanProgram (image : Image) (page : ℕ) : Type 0 where
 
 -- each page of a range has this value, and no other page changed
 pub record Filled (low high : ℕ) (value : Page) (old new : Image) : Type 0 where
-  pub shape : SameShape old new
+  pub shape : SameImageShape old new
   pub inside : (p : ℕ) → low ≤ p → p < high → page_at new p ≡ value
   pub outside : (p : ℕ) → (p < low) ⊎ (high ≤ p) → page_at new p ≡ page_at old p
 
 -- An operation that would give each page of a range this value was cut short: each of them is as it was, has the value or
 -- is uncorrectable, and no other page changed.
 pub record Cut (low high : ℕ) (value : Page) (old new : Image) : Type 0 where
-  pub shape : SameShape old new
+  pub shape : SameImageShape old new
   pub each : (p : ℕ) → (page_at new p ≡ page_at old p)
       ⊎ ((low ≤ p) × (p < high) × ((page_at new p ≡ value) ⊎ (page_at new p ≡ uncorrectable)))
 
 -- what a finished or a failed operation leaves
-abbrev pub Leaves : ℕ → ℕ → Page → Image → WriteAnswer → Image → Type 0
-Leaves low high value old write.Done new = Filled low high value old new
-Leaves low high value old write.Failed new = Cut low high value old new
+abbrev pub OperationLeaves : ℕ → ℕ → Page → Image → WriteAnswer → Image → Type 0
+OperationLeaves low high value old write.Done new = Filled low high value old new
+OperationLeaves low high value old write.Failed new = Cut low high value old new
 
 -- the clock after an operation: it counts the finished ones
 abbrev pub ticked : ℕ → WriteAnswer → ℕ
@@ -77,7 +77,7 @@ pub record FaultsCounted (before now : ℕ) (failed : Type 0) : Type 0 where
   pub stays : (failed → ⊥) → now ≡ before
 
 -- a crash may have left the same images as before the call
-pub record SameLeft {M : Type 0} (left : M → ℕ → Image → Type 0) (old new : M) : Type 0 where
+pub record SameCrashStates {M : Type 0} (left : M → ℕ → Image → Type 0) (old new : M) : Type 0 where
   pub no_more : (m : ℕ) (c : Image) → left new m c → left old m c
   pub no_fewer : (m : ℕ) (c : Image) → left old m c → left new m c
 
@@ -86,14 +86,14 @@ pub record Unchanged {M : Type 0} (geometry : M → Geometry) (contents : M → 
     (old new : M) : Type 0 where
   pub same_geometry : geometry new ≡ geometry old
   pub same_contents : contents new ≡ contents old
-  pub same_left : SameLeft left old new
+  pub same_left : SameCrashStates left old new
 
 -- the medium was read, and nothing else was done to it
-pub record OnlyReads {M : Type 0} (geometry : M → Geometry) (contents : M → Image) (clock write_faults : M → ℕ)
+pub record MediumOnlyRead {M : Type 0} (geometry : M → Geometry) (contents : M → Image) (clock write_faults : M → ℕ)
     (left : M → ℕ → Image → Type 0) (old new : M) : Type 0 where
   pub same_geometry : geometry new ≡ geometry old
   pub same_contents : contents new ≡ contents old
-  pub same_left : SameLeft left old new
+  pub same_left : SameCrashStates left old new
   pub same_clock : clock new ≡ clock old
   pub same_write_faults : write_faults new ≡ write_faults old
 

@@ -71,10 +71,10 @@ undone (entry.Erased low cells moment) now =
 undone (entry.Failed tried moment) now = now
 
 -- What a crash may have left at moment m, where the newest entry comes first, and the image now and the clock now are given.
-unfoldable pub LeftBy : List Entry → Image → ℕ → ℕ → Image → Type 0
-LeftBy [] now clock m c = (m ≡ clock) × (c ≡ now)
-LeftBy (e ∷ older) now clock m c = ((m ≡ clock) × (c ≡ now))
-    ⊎ (((m ≡ moment_of e) × Cut (low_of e) (high_of e) (value_in e now) (undone e now) c) ⊎ LeftBy older (undone e now) (moment_of e) m c)
+unfoldable pub IsCrashState : List Entry → Image → ℕ → ℕ → Image → Type 0
+IsCrashState [] now clock m c = (m ≡ clock) × (c ≡ now)
+IsCrashState (e ∷ older) now clock m c = ((m ≡ clock) × (c ≡ now))
+    ⊎ (((m ≡ moment_of e) × Cut (low_of e) (high_of e) (value_in e now) (undone e now) c) ⊎ IsCrashState older (undone e now) (moment_of e) m c)
 
 -- Each image that the record tells of is one, and no entry is later than the next.
 unfoldable pub is_history : List Entry → Image → ℕ → Bool

@@ -3,7 +3,7 @@ use Rattle.std.proofs.Common.{◌≡◌, ◌⊎◌, inl, inr, ⊎_elim, ℕ, ◌
 use Rattle.nl_field.specs.Page.{Image, is_page, is_image}
 use Rattle.nl_field.specs.Numbers.{is_legal}
 use Rattle.nl_nand.specs.Nand.{IsLegal, ImageOf}
-use Rattle.nl_nand.specs.Record.{LeftBy, is_geometry, is_history, moment_of, value_in, undone}
+use Rattle.nl_nand.specs.Record.{IsCrashState, is_geometry, is_history, moment_of, value_in, undone}
 use Rattle.nl_nand.specs.declared.geometry.Geometry.{Geometry}
 use Rattle.nl_nand.specs.declared.record.Entry.{Entry}
 use Rattle.nl_nand.specs.declared.record.Entry.TheVariants as entry
@@ -53,8 +53,8 @@ history_is (e ∷ older) now clock is =
     )
 
 -- what there is now
-pub now_left : (h : List Entry) (now : Image) (clock : ℕ) → LeftBy h now clock clock now
-unfolding LeftBy
+pub now_left : (h : List Entry) (now : Image) (clock : ℕ) → IsCrashState h now clock clock now
+unfolding IsCrashState
 now_left [] now clock = (refl, refl)
 now_left (e ∷ h) now clock = inl (refl, refl)
 
@@ -62,8 +62,8 @@ pub history_now : (h : List Entry) (now : Image) (clock : ℕ) → IsHistory h n
 history_now [] now clock history = history
 history_now (e ∷ h) now clock history = history.0
 
-pub no_later : (h : List Entry) (now : Image) (clock m : ℕ) (c : Image) → IsHistory h now clock → LeftBy h now clock m c → m ≤ clock
-unfolding LeftBy
+pub no_later : (h : List Entry) (now : Image) (clock m : ℕ) (c : Image) → IsHistory h now clock → IsCrashState h now clock m c → m ≤ clock
+unfolding IsCrashState
 no_later [] now clock m c history l = le_of_eq l.0
 no_later (e ∷ older) now clock m c history (inl here) = le_of_eq here.0
 no_later (e ∷ older) now clock m c history (inr (inl cut)) = le_trans (le_of_eq cut.0) history.2
@@ -81,9 +81,9 @@ undone_pages (entry.Erased low cells moment) now = refl
 undone_pages (entry.Failed tried moment) now = refl
 
 pub left_fits : (g : Geometry) (h : List Entry) (now : Image) (clock m : ℕ) (c : Image) → now.blocks ≡ g.blocks
-    → now.pages ≡ g.pages → IsHistory h now clock → LeftBy h now clock m c
+    → now.pages ≡ g.pages → IsHistory h now clock → IsCrashState h now clock m c
     → ImageOf g c
-unfolding LeftBy
+unfolding IsCrashState
 left_fits g [] now clock m c blocks pages history l =
     record {
       blocks = ap (λ (i : Image). i.blocks) l.1 ∙ blocks;
@@ -117,7 +117,7 @@ both_zero g h =
 pub legal : (g : Geometry) → IsTrue (is_geometry g) → IsLegal g
 legal g is = ⊎_elim (λ h. inl h) (λ h. inr (both_zero g h)) (or_cases (is_legal g.blocks g.pages) (g.blocks == 0 && g.pages == 0) is)
 
-pub not_later : (h : List Entry) (now : Image) (clock m : ℕ) (c : Image) → IsTrue (is_history h now clock) → LeftBy h now clock m c → m ≤ clock
+pub not_later : (h : List Entry) (now : Image) (clock m : ℕ) (c : Image) → IsTrue (is_history h now clock) → IsCrashState h now clock m c → m ≤ clock
 not_later h now clock m c history l = no_later h now clock m c (history_is h now clock history) l
 
 pub now_fits : (g : Geometry) (h : List Entry) (now : Image) (clock : ℕ) → now.blocks ≡ g.blocks → now.pages ≡ g.pages
@@ -126,6 +126,6 @@ now_fits g h now clock blocks pages history =
     record { blocks = blocks; pages = pages; whole = history_now h now clock (history_is h now clock history) }
 
 pub all_fit : (g : Geometry) (h : List Entry) (now : Image) (clock m : ℕ) (c : Image) → now.blocks ≡ g.blocks → now.pages ≡ g.pages
-    → IsTrue (is_history h now clock) → LeftBy h now clock m c
+    → IsTrue (is_history h now clock) → IsCrashState h now clock m c
     → ImageOf g c
 all_fit g h now clock m c blocks pages history l = left_fits g h now clock m c blocks pages (history_is h now clock history) l

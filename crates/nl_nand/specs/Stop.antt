@@ -1,7 +1,7 @@
 -- What a stop leaves of the pages of the operation that it cuts short.
 use Rattle.std.specs.Prelude.{◌≡◌, ◌⊎◌, ℕ, ◌-◌, ◌/◌, ◌%◌, ◌^◌, ◌<◌, ◌≤◌, zero, suc}
 use Rattle.nl_field.specs.Page.{Page, uncorrectable, Image, page_at}
-use Rattle.nl_nand.specs.Nand.{SameShape}
+use Rattle.nl_nand.specs.Nand.{SameImageShape}
 use Rattle.nl_nand.specs.declared.stop.Cut.{Cut}
 use Rattle.nl_nand.specs.declared.stop.Cut.TheVariants as cut
 use Rattle.nl_nand.specs.declared.stop.Outcome.{Outcome}
@@ -32,8 +32,8 @@ pub record CutShort : Type 0 where
   pub how : Cut
 
 -- the image that the stop leaves of the old one
-pub record LeftImage (stopped : CutShort) (old new : Image) : Type 0 where
-  pub shape : SameShape old new
+pub record IsCrashImage (stopped : CutShort) (old new : Image) : Type 0 where
+  pub shape : SameImageShape old new
   pub inside : (p : ℕ) → stopped.low ≤ p → p < stopped.high
       → page_at new p ≡ page_after (outcome_of stopped.how (p - stopped.low)) stopped.value (page_at old p)
   pub outside : (p : ℕ) → (p < stopped.low) ⊎ (stopped.high ≤ p) → page_at new p ≡ page_at old p

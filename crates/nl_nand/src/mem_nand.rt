@@ -39,15 +39,15 @@ pub struct MemNand {
 
 impl MemNand {
     ghost use Rattle.std.specs.Prelude.{◌≡◌, ℕ, ◌≤◌, [], OnOk, MatchOption};
-    ghost use Rattle.nl_nand.specs.Stop.{LeftImage};
+    ghost use Rattle.nl_nand.specs.Stop.{IsCrashImage};
     ghost use Rattle.nl_field.specs.Page.{Image};
     ghost use Rattle.nl_nand.specs.Plan.{fresh};
-    ghost use Rattle.nl_nand.specs.Memory.{geometry_of, contents_of, clock_of, read_faults_of, write_faults_of, left_of, plan_of, room_of, SameButRoom};
+    ghost use Rattle.nl_nand.specs.Memory.{geometry_of, contents_of, clock_of, read_faults_of, write_faults_of, memory_crash_states, plan_of, room_of, SameButRoom};
 
     /// A medium that was never formed.
     pub fn new(alloc: Global, reads: FailList, writes: FailList, stop: Option<Stop>) -> MemNand
         ensures geometry { geometry_of result ≡ record { blocks = 0; pages = 0 } }
-        ensures left { (m : ℕ) (c : Image) → left_of result m c → (m ≡ 0) × (c ≡ contents_of result) }
+        ensures left { (m : ℕ) (c : Image) → memory_crash_states result m c → (m ≡ 0) × (c ≡ contents_of result) }
         ensures clock { clock_of result ≡ 0 }
         ensures read_faults { read_faults_of result ≡ 0 }
         ensures write_faults { write_faults_of result ≡ 0 }
@@ -80,9 +80,9 @@ impl MemNand {
     pub fn restart(self, stop: Option<Stop>) -> MemNand
         ensures geometry { geometry_of result ≡ geometry_of self }
         ensures contents { MatchOption (plan_of self).stopped (contents_of result ≡ contents_of self)
-            (λ s. LeftImage s (contents_of self) (contents_of result)) }
-        ensures was_left { left_of self (clock_of self) (contents_of result) }
-        ensures begins { (m : ℕ) (c : Image) → left_of result m c → (m ≡ 0) × (c ≡ contents_of result) }
+            (λ s. IsCrashImage s (contents_of self) (contents_of result)) }
+        ensures was_left { memory_crash_states self (clock_of self) (contents_of result) }
+        ensures begins { (m : ℕ) (c : Image) → memory_crash_states result m c → (m ≡ 0) × (c ≡ contents_of result) }
         ensures clock { clock_of result ≡ 0 }
         ensures read_faults { read_faults_of result ≡ 0 }
         ensures write_faults { write_faults_of result ≡ 0 }
@@ -224,9 +224,9 @@ impl Nand for MemNand {
     ghost use Rattle.std.specs.Prelude.{◌≡◌, ◌⊎◌, ◌↔◌, ◌+◌, ◌*◌, ◌<◌, ◌≤◌, ℕ, IsTrue, IsSome, refl};
     ghost use Rattle.nl_field.specs.Page.{Image, page_at, erased, written};
     ghost use Rattle.nl_field.specs.Numbers.{is_legal};
-    ghost use Rattle.nl_nand.specs.Nand.{IsBlank, Reads, CanProgram, Leaves, FaultsCounted, Unchanged, OnlyReads, OperationCounted, CrashLeaves, CrashReaches, block_start, block_end};
+    ghost use Rattle.nl_nand.specs.Nand.{IsBlank, ReadsMediumPage, CanProgram, OperationLeaves, FaultsCounted, Unchanged, MediumOnlyRead, OperationCounted, CrashLeaves, CrashReaches, block_start, block_end};
     ghost use Rattle.nl_nand.specs.Plan.{ReadFails, after_read};
-    ghost use Rattle.nl_nand.specs.Memory.{geometry_of, contents_of, clock_of, read_faults_of, write_faults_of, left_of, log_of, plan_of, room_of, room_formed, NotBegun, Begun};
+    ghost use Rattle.nl_nand.specs.Memory.{geometry_of, contents_of, clock_of, read_faults_of, write_faults_of, memory_crash_states, log_of, plan_of, room_of, room_formed, NotBegun, OperationBegun};
     ghost use Rattle.nl_nand.specs.RecordLaws as laws;
 
     ghost tells = { Unit {0} };
@@ -241,7 +241,7 @@ impl Nand for MemNand {
 
     ghost write_faults = { write_faults_of };
 
-    ghost left = { left_of };
+    ghost left = { memory_crash_states };
 
     ghost legal = { λ s. laws.legal (geometry_of s) s.legal };
 
@@ -275,10 +275,10 @@ impl Nand for MemNand {
         requires { IsTrue (is_legal blocks pages) }
         ensures done { result ≡ FormAnswer.Done → geometry_of self.new ≡ record { blocks = blocks; pages = pages } }
         ensures erased { result ≡ FormAnswer.Done → IsBlank (contents_of self.new) }
-        ensures begins { result ≡ FormAnswer.Done → (m : ℕ) (c : Image) → left_of self.new m c
+        ensures begins { result ≡ FormAnswer.Done → (m : ℕ) (c : Image) → memory_crash_states self.new m c
             → (m ≡ clock_of self.new) × (c ≡ contents_of self.new) }
-        ensures failed { result ≡ FormAnswer.Failed → Unchanged geometry_of contents_of left_of self.old self.new }
-        ensures memory { result ≡ FormAnswer.Memory → Unchanged geometry_of contents_of left_of self.old self.new }
+        ensures failed { result ≡ FormAnswer.Failed → Unchanged geometry_of contents_of memory_crash_states self.old self.new }
+        ensures memory { result ≡ FormAnswer.Memory → Unchanged geometry_of contents_of memory_crash_states self.old self.new }
         ensures clock { clock_of self.new ≡ clock_of self.old }
         ensures read_faults { read_faults_of self.new ≡ read_faults_of self.old }
         ensures write_faults { FaultsCounted (write_faults_of self.old) (write_faults_of self.new) (result ≡ FormAnswer.Failed) }
@@ -304,8 +304,8 @@ impl Nand for MemNand {
     /// Reads a page. It fails exactly where its number is in the list or the stop has come.
     fn read(&mut self, page: u32, buf: &mut PageBuf) -> ReadAnswer
         requires { page < (geometry_of self.old).blocks * (geometry_of self.old).pages }
-        ensures answer { Reads (page_at (contents_of self.old) page) buf.new result }
-        ensures only_reads { OnlyReads geometry_of contents_of clock_of write_faults_of left_of self.old self.new }
+        ensures answer { ReadsMediumPage (page_at (contents_of self.old) page) buf.new result }
+        ensures only_reads { MediumOnlyRead geometry_of contents_of clock_of write_faults_of memory_crash_states self.old self.new }
         ensures read_faults { FaultsCounted (read_faults_of self.old) (read_faults_of self.new) (result ≡ ReadAnswer.Failed) }
         ensures plan { plan_of self.new ≡ after_read (plan_of self.old) }
         ensures fails { (result ≡ ReadAnswer.Failed) ↔ ReadFails (plan_of self.old) }
@@ -330,11 +330,11 @@ impl Nand for MemNand {
     fn program(&mut self, page: u32, from: &PageBuf) -> WriteAnswer
         requires within { page < (geometry_of self.old).blocks * (geometry_of self.old).pages }
         requires erased { CanProgram (contents_of self.old) page }
-        ensures effect { Leaves page (page + 1) (written from.now) (contents_of self.old) result (contents_of self.new) }
-        ensures crash { CrashLeaves clock_of contents_of left_of page (page + 1) (written from.now) self.old self.new }
-        ensures reached { CrashReaches clock_of contents_of left_of page (page + 1) (written from.now) self.old self.new result }
+        ensures effect { OperationLeaves page (page + 1) (written from.now) (contents_of self.old) result (contents_of self.new) }
+        ensures crash { CrashLeaves clock_of contents_of memory_crash_states page (page + 1) (written from.now) self.old self.new }
+        ensures reached { CrashReaches clock_of contents_of memory_crash_states page (page + 1) (written from.now) self.old self.new result }
         ensures counted { OperationCounted geometry_of clock_of read_faults_of write_faults_of self.old self.new result }
-        ensures exact { NotBegun self.old self.new result ⊎ Begun page (page + 1) (written from.now) self.old self.new result }
+        ensures exact { NotBegun self.old self.new result ⊎ OperationBegun page (page + 1) (written from.now) self.old self.new result }
     {
         self.run_program(page as usize, from)
     }
@@ -342,15 +342,15 @@ impl Nand for MemNand {
     /// Erases a block. Once it is begun it fails exactly where its number is in the list or the stop comes within it.
     fn erase(&mut self, block: u32) -> WriteAnswer
         requires { block < (geometry_of self.old).blocks }
-        ensures effect { Leaves (block_start (geometry_of self.old) block) (block_end (geometry_of self.old) block) erased
+        ensures effect { OperationLeaves (block_start (geometry_of self.old) block) (block_end (geometry_of self.old) block) erased
             (contents_of self.old) result (contents_of self.new) }
-        ensures crash { CrashLeaves clock_of contents_of left_of (block_start (geometry_of self.old) block)
+        ensures crash { CrashLeaves clock_of contents_of memory_crash_states (block_start (geometry_of self.old) block)
             (block_end (geometry_of self.old) block) erased self.old self.new }
-        ensures reached { CrashReaches clock_of contents_of left_of (block_start (geometry_of self.old) block)
+        ensures reached { CrashReaches clock_of contents_of memory_crash_states (block_start (geometry_of self.old) block)
             (block_end (geometry_of self.old) block) erased self.old self.new result }
         ensures counted { OperationCounted geometry_of clock_of read_faults_of write_faults_of self.old self.new result }
         ensures exact { NotBegun self.old self.new result
-            ⊎ Begun (block_start (geometry_of self.old) block) (block_end (geometry_of self.old) block) erased self.old self.new result }
+            ⊎ OperationBegun (block_start (geometry_of self.old) block) (block_end (geometry_of self.old) block) erased self.old self.new result }
     {
         self.run_erase(block as usize * self.geometry.pages as usize)
     }

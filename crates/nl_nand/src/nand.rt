@@ -3,7 +3,7 @@ ghost use Rattle.std.specs.Prelude.{◌≡◌, ◌⊎◌, ◌<◌, ◌≤◌, �
 ghost use Rattle.nl_field.specs.Page.{Image, page_at, erased, written};
 ghost use Rattle.nl_field.specs.Numbers.{is_legal};
 ghost use Rattle.nl_nand.specs.declared.geometry.Geometry.{Geometry as Numbers};
-ghost use Rattle.nl_nand.specs.Nand.{IsLegal, ImageOf, IsBlank, Reads, CanProgram, Leaves, FaultsCounted, Unchanged, OnlyReads, OperationCounted, CrashLeaves, CrashReaches, block_start, block_end};
+ghost use Rattle.nl_nand.specs.Nand.{IsLegal, ImageOf, IsBlank, ReadsMediumPage, CanProgram, OperationLeaves, FaultsCounted, Unchanged, MediumOnlyRead, OperationCounted, CrashLeaves, CrashReaches, block_start, block_end};
 
 use crate::answers::{FormAnswer, ReadAnswer, WriteAnswer};
 use crate::geometry::Geometry;
@@ -69,15 +69,15 @@ pub trait Nand {
     /// Reads a page. The buffer holds it where the answer is `Written`.
     fn read(&mut self, page: u32, buf: &mut PageBuf) -> ReadAnswer
         requires { page < (geometry self.old).blocks * (geometry self.old).pages }
-        ensures answer { tells → Reads (page_at (contents self.old) page) buf.new result }
-        ensures only_reads { OnlyReads geometry contents clock write_faults left self.old self.new }
+        ensures answer { tells → ReadsMediumPage (page_at (contents self.old) page) buf.new result }
+        ensures only_reads { MediumOnlyRead geometry contents clock write_faults left self.old self.new }
         ensures read_faults { FaultsCounted (read_faults self.old) (read_faults self.new) (result ≡ ReadAnswer.Failed) };
 
     /// Programs a page. The page and all later pages of its block are erased.
     fn program(&mut self, page: u32, from: &PageBuf) -> WriteAnswer
         requires within { page < (geometry self.old).blocks * (geometry self.old).pages }
         requires erased { tells → CanProgram (contents self.old) page }
-        ensures effect { tells → Leaves page (page + 1) (written from.now) (contents self.old) result (contents self.new) }
+        ensures effect { tells → OperationLeaves page (page + 1) (written from.now) (contents self.old) result (contents self.new) }
         ensures crash { CrashLeaves clock contents left page (page + 1) (written from.now) self.old self.new }
         ensures reached { tells → CrashReaches clock contents left page (page + 1) (written from.now) self.old self.new result }
         ensures counted { OperationCounted geometry clock read_faults write_faults self.old self.new result };
@@ -85,7 +85,7 @@ pub trait Nand {
     /// Erases all pages of a block.
     fn erase(&mut self, block: u32) -> WriteAnswer
         requires { block < (geometry self.old).blocks }
-        ensures effect { tells → Leaves (block_start (geometry self.old) block) (block_end (geometry self.old) block) erased
+        ensures effect { tells → OperationLeaves (block_start (geometry self.old) block) (block_end (geometry self.old) block) erased
             (contents self.old) result (contents self.new) }
         ensures crash { CrashLeaves clock contents left (block_start (geometry self.old) block)
             (block_end (geometry self.old) block) erased self.old self.new }

@@ -3,7 +3,7 @@ ghost use Rattle.std.specs.Prelude.{◌≡◌, ◌+◌, ◌<◌, ◌≤◌, leng
 ghost use Rattle.nl_field.specs.Page.{erased};
 ghost use Rattle.nl_nand.specs.Stop.{page_after};
 ghost use Rattle.nl_nand.specs.Record.{page_of, pages_of, low_of_attempt, high_of_attempt, value_of_attempt, end_of};
-ghost use Rattle.nl_nand.specs.CutCells.{IsCut, AreLeft};
+ghost use Rattle.nl_nand.specs.CutCells.{CellsAreCut, AreCrashCells};
 
 use crate::cell::Cell;
 use crate::interrupted::Interrupted;
@@ -13,7 +13,7 @@ use crate::stop::{Cut, Outcome};
 /// The cells that a stop leaves, or all of them where no stop came.
 pub fn left_cells(mut cells: Vec<Cell>, stopped: Option<Interrupted>) -> Vec<Cell>
     requires { end_of stopped ≤ length cells.items }
-    ensures { AreLeft stopped cells.items result.items }
+    ensures { AreCrashCells stopped cells.items result.items }
 {
     if let Some(stopped) = stopped {
         cut_cells(&mut cells, stopped);
@@ -24,7 +24,7 @@ pub fn left_cells(mut cells: Vec<Cell>, stopped: Option<Interrupted>) -> Vec<Cel
 /// Leaves of the cells what the stop does.
 fn cut_cells(cells: &mut Vec<Cell>, stopped: Interrupted)
     requires { high_of_attempt stopped.attempt ≤ length cells.old.items }
-    ensures { IsCut (low_of_attempt stopped.attempt) (high_of_attempt stopped.attempt)
+    ensures { CellsAreCut (low_of_attempt stopped.attempt) (high_of_attempt stopped.attempt)
         (value_of_attempt stopped.attempt) stopped.cut cells.old.items cells.new.items }
 {
     let Interrupted { attempt, cut } = stopped;
@@ -53,7 +53,7 @@ fn give(cells: &mut Vec<Cell>, page: usize, outcome: Outcome, value: Cell)
 /// Gives each page of an erased range its outcome.
 fn give_each(cells: &mut Vec<Cell>, low: usize, count: usize, cut: Cut)
     requires { low + count ≤ length cells.old.items }
-    ensures { IsCut low (low + count) erased cut cells.old.items cells.new.items }
+    ensures { CellsAreCut low (low + count) erased cut cells.old.items cells.new.items }
 {
     for at in 0..count {
         give(cells, low + at, cut.outcome(at), Cell::Erased);

@@ -2,7 +2,7 @@
 ghost use Rattle.std.specs.Prelude.{◌≡◌, ◌≤◌, ◌+◌, ◌*◌, ◌++◌, ◌∷◌, [], false, IsTrue, length, codes};
 ghost use Rattle.hex.specs.Hex.{encode_lower};
 ghost use Rattle.nl_field.specs.CrashStates.{Rose};
-ghost use Rattle.nl_io.specs.Streams.{Writes};
+ghost use Rattle.nl_io.specs.Streams.{WritesStream};
 ghost use Rattle.nl_print.specs.Texts.{answer_line, refusal_text, fault_text, reply_text};
 
 use crate::line::LineBuf;
@@ -145,7 +145,7 @@ fn push_tail(line: &mut LineBuf, tail: Tail, bytes: &[u8]) -> bool
 
 // Writes the bytes in lower case hexadecimal, in pieces.
 fn write_hex<K: Sink>(sink: &mut K, bytes: &[u8]) -> SinkAnswer
-    ensures text { Writes (K.taken sink.old) (K.taken sink.new) result (encode_lower bytes.now) }
+    ensures text { WritesStream (K.taken sink.old) (K.taken sink.new) result (encode_lower bytes.now) }
     ensures never_falls { K.faults sink.old ≤ K.faults sink.new }
     ensures cause { result ≡ SinkAnswer.Failed → Rose (K.faults sink.old) (K.faults sink.new) }
 {
@@ -168,7 +168,7 @@ fn write_hex<K: Sink>(sink: &mut K, bytes: &[u8]) -> SinkAnswer
 }
 
 fn write_tail<K: Sink>(sink: &mut K, tail: Tail, bytes: &[u8]) -> SinkAnswer
-    ensures text { Writes (K.taken sink.old) (K.taken sink.new) result (tail_text tail bytes.now) }
+    ensures text { WritesStream (K.taken sink.old) (K.taken sink.new) result (tail_text tail bytes.now) }
     ensures never_falls { K.faults sink.old ≤ K.faults sink.new }
     ensures cause { result ≡ SinkAnswer.Failed → Rose (K.faults sink.old) (K.faults sink.new) }
 {
@@ -187,7 +187,7 @@ pub fn answer_line<K: Sink>(
     reply: &Reply,
     bytes: &[u8],
 ) -> SinkAnswer
-    ensures text { Writes (K.taken sink.old) (K.taken sink.new) result (answer_line place (line, reply.now, bytes.now)) }
+    ensures text { WritesStream (K.taken sink.old) (K.taken sink.new) result (answer_line place (line, reply.now, bytes.now)) }
     ensures never_falls { K.faults sink.old ≤ K.faults sink.new }
     ensures cause { result ≡ SinkAnswer.Failed → Rose (K.faults sink.old) (K.faults sink.new) }
 {

@@ -1,7 +1,7 @@
 // The findings of a check.
 ghost use Rattle.std.specs.Prelude.{◌≡◌, ◌≤◌, ◌+◌, ◌++◌, length};
 ghost use Rattle.nl_field.specs.CrashStates.{Rose};
-ghost use Rattle.nl_io.specs.Streams.{Writes};
+ghost use Rattle.nl_io.specs.Streams.{WritesStream};
 ghost use Rattle.nl_print.specs.Texts.{finding_text, findings_text};
 
 use crate::line::LineBuf;
@@ -23,7 +23,7 @@ fn push_finding(text: &mut LineBuf, bits: Findings, what: What)
 
 /// Prints the names of the findings, one per line, in the order of the phases of a walk.
 pub fn findings_lines<K: Sink>(sink: &mut K, bits: Findings) -> SinkAnswer
-    ensures text { Writes (K.taken sink.old) (K.taken sink.new) result (findings_text bits) }
+    ensures text { WritesStream (K.taken sink.old) (K.taken sink.new) result (findings_text bits) }
     ensures never_falls { K.faults sink.old ≤ K.faults sink.new }
     ensures cause { result ≡ SinkAnswer.Failed → Rose (K.faults sink.old) (K.faults sink.new) }
 {

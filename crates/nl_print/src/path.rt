@@ -1,7 +1,7 @@
 // Lines of `tree`: a directory with the count of its entries, and a file with its size and pages.
 ghost use Rattle.std.specs.Prelude.{◌≡◌, ◌≤◌, ◌++◌, ◌∷◌, length, IsTrue};
 ghost use Rattle.nl_field.specs.CrashStates.{Rose};
-ghost use Rattle.nl_io.specs.Streams.{Writes};
+ghost use Rattle.nl_io.specs.Streams.{WritesStream};
 ghost use Rattle.nl_print.specs.Texts.{path_text, dir_text, file_text};
 
 use crate::line::LineBuf;
@@ -9,7 +9,7 @@ use nl_io::{Sink, SinkAnswer};
 use nl_tree::Names;
 
 fn write_name<K: Sink>(sink: &mut K, name: &[u8]) -> SinkAnswer
-    ensures text { Writes (K.taken sink.old) (K.taken sink.new) result (47 ∷ name.now) }
+    ensures text { WritesStream (K.taken sink.old) (K.taken sink.new) result (47 ∷ name.now) }
     ensures never_falls { K.faults sink.old ≤ K.faults sink.new }
     ensures cause { result ≡ SinkAnswer.Failed → Rose (K.faults sink.old) (K.faults sink.new) }
 {
@@ -20,7 +20,7 @@ fn write_name<K: Sink>(sink: &mut K, name: &[u8]) -> SinkAnswer
 }
 
 fn write_path<K: Sink, P: Names>(sink: &mut K, path: &P) -> SinkAnswer
-    ensures text { Writes (K.taken sink.old) (K.taken sink.new) result (path_text (P.names path.now)) }
+    ensures text { WritesStream (K.taken sink.old) (K.taken sink.new) result (path_text (P.names path.now)) }
     ensures never_falls { K.faults sink.old ≤ K.faults sink.new }
     ensures cause { result ≡ SinkAnswer.Failed → Rose (K.faults sink.old) (K.faults sink.new) }
 {
@@ -78,7 +78,7 @@ fn write_path_line<K: Sink, P: Names>(
     rest: &[u8],
 ) -> SinkAnswer
     requires short { (length mark.now ≤ 2) × (length rest.now ≤ 46) }
-    ensures text { Writes (K.taken sink.old) (K.taken sink.new) result (mark.now ++ path_text (P.names path.now) ++ rest.now) }
+    ensures text { WritesStream (K.taken sink.old) (K.taken sink.new) result (mark.now ++ path_text (P.names path.now) ++ rest.now) }
     ensures never_falls { K.faults sink.old ≤ K.faults sink.new }
     ensures cause { result ≡ SinkAnswer.Failed → Rose (K.faults sink.old) (K.faults sink.new) }
 {
@@ -100,7 +100,7 @@ fn write_path_line<K: Sink, P: Names>(
 
 /// Prints `d PATH ENTRIES`.
 pub fn dir_line<K: Sink, P: Names>(sink: &mut K, path: &P, entries: u32) -> SinkAnswer
-    ensures text { Writes (K.taken sink.old) (K.taken sink.new) result (dir_text (P.names path.now) entries) }
+    ensures text { WritesStream (K.taken sink.old) (K.taken sink.new) result (dir_text (P.names path.now) entries) }
     ensures never_falls { K.faults sink.old ≤ K.faults sink.new }
     ensures cause { result ≡ SinkAnswer.Failed → Rose (K.faults sink.old) (K.faults sink.new) }
 {
@@ -112,7 +112,7 @@ pub fn dir_line<K: Sink, P: Names>(sink: &mut K, path: &P, entries: u32) -> Sink
 
 /// Prints `f PATH SIZE PAGES`: the bytes of the file, and the count of its pages that hold bytes.
 pub fn file_line<K: Sink, P: Names>(sink: &mut K, path: &P, size: u64, pages: u32) -> SinkAnswer
-    ensures text { Writes (K.taken sink.old) (K.taken sink.new) result (file_text (P.names path.now) size pages) }
+    ensures text { WritesStream (K.taken sink.old) (K.taken sink.new) result (file_text (P.names path.now) size pages) }
     ensures never_falls { K.faults sink.old ≤ K.faults sink.new }
     ensures cause { result ≡ SinkAnswer.Failed → Rose (K.faults sink.old) (K.faults sink.new) }
 {

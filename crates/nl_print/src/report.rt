@@ -1,7 +1,7 @@
 // The counts of a volume: the lines of `format`, `report` and `soak`.
 ghost use Rattle.std.specs.Prelude.{◌≡◌, ◌≤◌, ◌+◌, ◌++◌, ◌∷◌, [], length};
 ghost use Rattle.nl_field.specs.CrashStates.{Rose};
-ghost use Rattle.nl_io.specs.Streams.{Writes};
+ghost use Rattle.nl_io.specs.Streams.{WritesStream};
 ghost use Rattle.nl_print.specs.Texts.{formatted_text, number_text, blocks_text, pages_text, wear_text, report_text, calls_text, bytes_text, charges_text, soak_text};
 
 use crate::line::LineBuf;
@@ -10,7 +10,7 @@ use nl_io::{Sink, SinkAnswer};
 
 /// Prints the numbers of a fresh volume.
 pub fn formatted_line<K: Sink>(sink: &mut K, shape: &Shape) -> SinkAnswer
-    ensures text { Writes (K.taken sink.old) (K.taken sink.new) result (formatted_text shape.now) }
+    ensures text { WritesStream (K.taken sink.old) (K.taken sink.new) result (formatted_text shape.now) }
     ensures never_falls { K.faults sink.old ≤ K.faults sink.new }
     ensures cause { result ≡ SinkAnswer.Failed → Rose (K.faults sink.old) (K.faults sink.new) }
 {
@@ -79,7 +79,7 @@ pub fn report_lines<K: Sink>(
     greatest: u32,
     stamp: u64,
 ) -> SinkAnswer
-    ensures text { Writes (K.taken sink.old) (K.taken sink.new) result
+    ensures text { WritesStream (K.taken sink.old) (K.taken sink.new) result
         (report_text shape.now count «data» nodes meta pairs least greatest stamp) }
     ensures never_falls { K.faults sink.old ≤ K.faults sink.new }
     ensures cause { result ≡ SinkAnswer.Failed → Rose (K.faults sink.old) (K.faults sink.new) }
@@ -140,7 +140,7 @@ pub fn soak_lines<K: Sink>(
     meta: u32,
 ) -> SinkAnswer
     requires { ok ≤ calls }
-    ensures text { Writes (K.taken sink.old) (K.taken sink.new) result (soak_text calls ok written read «data» nodes meta) }
+    ensures text { WritesStream (K.taken sink.old) (K.taken sink.new) result (soak_text calls ok written read «data» nodes meta) }
     ensures never_falls { K.faults sink.old ≤ K.faults sink.new }
     ensures cause { result ≡ SinkAnswer.Failed → Rose (K.faults sink.old) (K.faults sink.new) }
 {

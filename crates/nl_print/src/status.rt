@@ -1,7 +1,7 @@
 // Texts of one or more lines that end a command with a status of its own.
 ghost use Rattle.std.specs.Prelude.{◌≡◌, ◌≤◌, length};
 ghost use Rattle.nl_field.specs.CrashStates.{Rose};
-ghost use Rattle.nl_io.specs.Streams.{Writes};
+ghost use Rattle.nl_io.specs.Streams.{WritesStream};
 ghost use Rattle.nl_print.specs.Texts.{refused_text, what_text, damaged_text};
 
 use crate::line::LineBuf;
@@ -11,7 +11,7 @@ use nl_io::{Sink, SinkAnswer};
 
 /// Prints `script LINE COLUMN WHY`.
 pub fn refused_line<K: Sink>(sink: &mut K, line: u32, column: u32, why: &[u8]) -> SinkAnswer
-    ensures text { Writes (K.taken sink.old) (K.taken sink.new) result (refused_text line column why.now) }
+    ensures text { WritesStream (K.taken sink.old) (K.taken sink.new) result (refused_text line column why.now) }
     ensures never_falls { K.faults sink.old ≤ K.faults sink.new }
     ensures cause { result ≡ SinkAnswer.Failed → Rose (K.faults sink.old) (K.faults sink.new) }
 {
@@ -52,7 +52,7 @@ pub(crate) fn what_bytes(what: What) -> &'static [u8]
 
 /// Prints `damaged PLACE WHAT`.
 pub fn damaged_line<K: Sink>(sink: &mut K, at: &Place) -> SinkAnswer
-    ensures text { Writes (K.taken sink.old) (K.taken sink.new) result (damaged_text at.now) }
+    ensures text { WritesStream (K.taken sink.old) (K.taken sink.new) result (damaged_text at.now) }
     ensures never_falls { K.faults sink.old ≤ K.faults sink.new }
     ensures cause { result ≡ SinkAnswer.Failed → Rose (K.faults sink.old) (K.faults sink.new) }
 {

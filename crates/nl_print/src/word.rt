@@ -1,7 +1,7 @@
 // A line of one word, and a line of a word and a number.
 ghost use Rattle.std.specs.Prelude.{◌≡◌, ◌≤◌, ◌++◌, ◌∷◌, []};
 ghost use Rattle.nl_field.specs.CrashStates.{Rose};
-ghost use Rattle.nl_io.specs.Streams.{Writes};
+ghost use Rattle.nl_io.specs.Streams.{WritesStream};
 ghost use Rattle.nl_print.specs.Texts.{then_number};
 
 use crate::line::LineBuf;
@@ -12,7 +12,7 @@ const MOST: usize = 4000;
 
 /// Prints the word and a line feed.
 pub fn word_line<K: Sink>(sink: &mut K, word: &[u8]) -> SinkAnswer
-    ensures text { Writes (K.taken sink.old) (K.taken sink.new) result (word.now ++ 10 ∷ []) }
+    ensures text { WritesStream (K.taken sink.old) (K.taken sink.new) result (word.now ++ 10 ∷ []) }
     ensures never_falls { K.faults sink.old ≤ K.faults sink.new }
     ensures cause { result ≡ SinkAnswer.Failed → Rose (K.faults sink.old) (K.faults sink.new) }
 {
@@ -30,7 +30,7 @@ pub fn word_line<K: Sink>(sink: &mut K, word: &[u8]) -> SinkAnswer
 
 /// Prints the word, a space, the number and a line feed.
 pub fn number_line<K: Sink>(sink: &mut K, word: &[u8], value: u64) -> SinkAnswer
-    ensures text { Writes (K.taken sink.old) (K.taken sink.new) result (word.now ++ then_number value ++ 10 ∷ []) }
+    ensures text { WritesStream (K.taken sink.old) (K.taken sink.new) result (word.now ++ then_number value ++ 10 ∷ []) }
     ensures never_falls { K.faults sink.old ≤ K.faults sink.new }
     ensures cause { result ≡ SinkAnswer.Failed → Rose (K.faults sink.old) (K.faults sink.new) }
 {

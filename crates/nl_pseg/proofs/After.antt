@@ -1,18 +1,18 @@
 -- What is seen of two states, where names are gone.
 use Rattle.std.proofs.Common.{◌≡◌, ℕ, ◌+◌, ◌≤◌, None, get_or, arith}
-use Rattle.nl_blocks.specs.Table.{IsTable}
-use Rattle.nl_pseg.specs.Seen.{IsFormed, IsTied, seen}
-use Rattle.nl_pseg.specs.Space.{GivesBack, HasFewPairs, Lessens, gain_of, left_of, reach}
-use Rattle.nl_pseg.specs.Steps.{Ends, NamesGone}
+use Rattle.nl_blocks.specs.Table.{IsBlockTable}
+use Rattle.nl_pseg.specs.Seen.{IsPhysicalFormed, IsTied, seen}
+use Rattle.nl_pseg.specs.Space.{GivesBackBlocks, HasFewPairs, Lessens, gain_of, left_in_victim, reach}
+use Rattle.nl_pseg.specs.Steps.{EndsPage, NamesGoneFromSegment}
 use Rattle.nl_pseg.specs.Kept.{Kept}
 use Rattle.nl_pseg.proofs.Ended.{few_on, gone_back, gone_lessens, same_reach}
 use Rattle.nl_pseg.proofs.Holds.{holds_whole}
 use Rattle.nl_pseg.proofs.Lefts.{gain_by, left_ended, left_same}
 use Rattle.nl_pseg.proofs.States.{within_length}
 
-module _ (s x : Kept) (is : IsFormed s) (tied : IsTied s) (table : IsTable s.blocks) (few : HasFewPairs (seen s)) (now : IsFormed x) (tied_now : IsTied x) (table_now : IsTable x.blocks) where
-  module _ (g : NamesGone (seen s) (seen x)) (held : x.held ≡ s.held) where
-    same_left : left_of (seen x) ≡ left_of (seen s)
+module _ (s x : Kept) (is : IsPhysicalFormed s) (tied : IsTied s) (table : IsBlockTable s.blocks) (few : HasFewPairs (seen s)) (now : IsPhysicalFormed x) (tied_now : IsTied x) (table_now : IsBlockTable x.blocks) where
+  module _ (g : NamesGoneFromSegment (seen s) (seen x)) (held : x.held ≡ s.held) where
+    same_left : left_in_victim (seen x) ≡ left_in_victim (seen s)
     same_left = left_same s x is tied table now tied_now table_now g.range.range_size g.victim (λ b p named from below. (λ i. get_or (held i).items p None))
 
     pub dropped_few : HasFewPairs (seen x)
@@ -30,11 +30,11 @@ module _ (s x : Kept) (is : IsFormed s) (tied : IsTied s) (table : IsTable s.blo
     pub dropped_reach : reach (seen x) ≡ reach (seen s)
     dropped_reach = same_reach g same_gain
 
-    pub dropped_back : GivesBack (seen s) (seen x)
+    pub dropped_back : GivesBackBlocks (seen s) (seen x)
     dropped_back = let e = same_gain in gone_back g (omega (arith, e))
 
-  module _ {page : ℕ} (d : Ends page (seen s) (seen x)) where
-    less_left : (left_of (seen x) ≤ left_of (seen s)) × (left_of (seen s) ≤ left_of (seen x) + 1)
+  module _ {page : ℕ} (d : EndsPage page (seen s) (seen x)) where
+    less_left : (left_in_victim (seen x) ≤ left_in_victim (seen s)) × (left_in_victim (seen s) ≤ left_in_victim (seen x) + 1)
     less_left = left_ended s x is tied table now tied_now table_now d.gone.range.range_size d.gone.victim page (within_length s is page d.within) d.held
 
     pub ended_few : HasFewPairs (seen x)
@@ -43,7 +43,7 @@ module _ (s x : Kept) (is : IsFormed s) (tied : IsTied s) (table : IsTable s.blo
     pub ended_space : Lessens 1 (seen s) (seen x)
     ended_space = gone_lessens d.gone 1 less_left.0 less_left.1
 
-    pub ended_back : GivesBack (seen s) (seen x)
+    pub ended_back : GivesBackBlocks (seen s) (seen x)
     ended_back =
         let e = less_left in
         let sum = gain_by s x is tied table now tied_now table_now d.gone.range.range_size d.gone.victim (holds_whole s is tied table few) (holds_whole x now tied_now table_now ended_few) in

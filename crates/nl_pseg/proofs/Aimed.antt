@@ -6,14 +6,14 @@ use Rattle.std.proofs.lemmas.List.{get_or-set_other}
 use Rattle.nl_blocks.specs.declared.states.Page.{Page}
 use Rattle.nl_blocks.specs.declared.states.PageState.{PageState}
 use Rattle.nl_blocks.specs.declared.states.BlockState.TheVariants.{Target, Victim}
-use Rattle.nl_blocks.specs.Table.{Table, HasBlock, HasPage, IsTable, block_at, dead_count, free_count, is_dead_state, new_page, page_at}
+use Rattle.nl_blocks.specs.Table.{Table, HasBlock, HasPage, IsBlockTable, block_at, dead_count, free_count, is_dead_state, new_page, page_at}
 use Rattle.nl_blocks.proofs.TableLaws.{page_in}
 use Rattle.nl_blocks.proofs.TableProofs.{row_size}
-use Rattle.nl_pseg.specs.Segment.{Physical, IsNext, IsNextCopy, held_at, soiled, wear_with, wear_of}
-use Rattle.nl_pseg.specs.Seen.{HasPhases, IsFormed, IsNamed, IsTied, seen}
-use Rattle.nl_pseg.specs.Space.{dead_in, gain_of, left_of}
+use Rattle.nl_pseg.specs.Segment.{Physical, IsNextToProgram, IsNextCopy, held_at, soiled, wear_with, wear_of}
+use Rattle.nl_pseg.specs.Seen.{HasPhases, IsPhysicalFormed, IsNamed, IsTied, seen}
+use Rattle.nl_pseg.specs.Space.{dead_in, gain_of, left_in_victim}
 use Rattle.nl_pseg.specs.Steps.{IsReadied, IsTargeted, aimed_at}
-use Rattle.nl_pseg_blocks.specs.Uses.{Use, use_in, Restated, SameMarks, SameNumbers, SameUse}
+use Rattle.nl_pseg_blocks.specs.Uses.{Use, use_in, SetsUse, SameMarks, SameNumbers, SameUse}
 use Rattle.nl_pseg.specs.declared.held.Held.{Held}
 use Rattle.nl_pseg.specs.Kept.{Kept}
 use Rattle.nl_pseg.proofs.Numbers.{block_of}
@@ -25,7 +25,7 @@ use Rattle.std.proofs.lemmas.Nat.{mod-mul-add}
 use Rattle.nl_pseg.proofs.Wearing.{taken_wear, taken_counts, counts_same}
 
 -- a block whose pages stay as live as they were
-pub dead_same : (a b : Table) → IsTable a → IsTable b → SameNumbers a b → (block : ℕ) → HasBlock a block → ((p : ℕ) → HasPage a p → p / a.size ≡ block → (page_at b p).state ≡ (page_at a p).state) → dead_count (block_at b block) ≡ dead_count (block_at a block)
+pub dead_same : (a b : Table) → IsBlockTable a → IsBlockTable b → SameNumbers a b → (block : ℕ) → HasBlock a block → ((p : ℕ) → HasPage a p → p / a.size ≡ block → (page_at b p).state ≡ (page_at a p).state) → dead_count (block_at b block) ≡ dead_count (block_at a block)
 dead_same a b is_a is_b n block has same = sum_same (λ (p : Page). num (is_dead_state p.state)) new_page (block_at b block).pages (block_at a block).pages size each
   where
     long : length (block_at a block).pages ≡ a.size
@@ -48,20 +48,20 @@ dead_same a b is_a is_b n block has same = sum_same (λ (p : Page). num (is_dead
         ap (λ (p : Page). num (is_dead_state p.state)) (sym in_b) ∙ (ap (λ (x : PageState). num (is_dead_state x)) (same page own at) ∙ ap (λ (p : Page). num (is_dead_state p.state)) in_a)
 
 -- a victim that has as many live pages
-pub left_over : (old new : Physical) → new.victim ≡ old.victim → new.size ≡ old.size → ((b : ℕ) → old.victim ≡ Some b → dead_in new b ≡ dead_in old b) → (left_of new ≡ left_of old) × (gain_of new ≡ gain_of old)
+pub left_over : (old new : Physical) → new.victim ≡ old.victim → new.size ≡ old.size → ((b : ℕ) → old.victim ≡ Some b → dead_in new b ≡ dead_in old b) → (left_in_victim new ≡ left_in_victim old) × (gain_of new ≡ gain_of old)
 left_over old new victim size dead = by old.victim refl
   where
-    by : (v : Option ℕ) → old.victim ≡ v → (left_of new ≡ left_of old) × (gain_of new ≡ gain_of old)
+    by : (v : Option ℕ) → old.victim ≡ v → (left_in_victim new ≡ left_in_victim old) × (gain_of new ≡ gain_of old)
     by None e = (
-      ap (λ v. left_of (record new { victim = v })) (victim ∙ e) ∙ sym (ap (λ v. left_of (record old { victim = v })) e),
+      ap (λ v. left_in_victim (record new { victim = v })) (victim ∙ e) ∙ sym (ap (λ v. left_in_victim (record old { victim = v })) e),
       ap (λ v. gain_of (record new { victim = v })) (victim ∙ e) ∙ sym (ap (λ v. gain_of (record old { victim = v })) e),
     )
     by (Some b) e = (
-      ap (λ v. left_of (record new { victim = v })) (victim ∙ e) ∙ ((λ i. size i - dead b e i) ∙ sym (ap (λ v. left_of (record old { victim = v })) e)),
+      ap (λ v. left_in_victim (record new { victim = v })) (victim ∙ e) ∙ ((λ i. size i - dead b e i) ∙ sym (ap (λ v. left_in_victim (record old { victim = v })) e)),
       ap (λ v. gain_of (record new { victim = v })) (victim ∙ e) ∙ (dead b e ∙ sym (ap (λ v. gain_of (record old { victim = v })) e)),
     )
 
-module _ (s : Kept) (tied : IsTied s) (t : Table) (is_a : IsTable s.blocks) (is_b : IsTable t) (n : SameNumbers s.blocks t) where
+module _ (s : Kept) (tied : IsTied s) (t : Table) (is_a : IsBlockTable s.blocks) (is_b : IsBlockTable t) (n : SameNumbers s.blocks t) where
   pub dead_kept : (block : ℕ) → s.victim ≡ Some block → ((p : ℕ) → HasPage s.blocks p → p / s.blocks.size ≡ block → (page_at t p).state ≡ (page_at s.blocks p).state) → dead_in (seen (record s { blocks = t })) block ≡ dead_in (seen s) block
   dead_kept block named same =
       let has = (tied.phases.victim_in block named).0 in
@@ -80,7 +80,7 @@ module _ (s : Kept) (block : ℕ) (k : IsTargeted s block) (some : 0 < s.blocks.
   copy_in : (p : ℕ) → IsNextCopy (seen after) p → p / s.blocks.size ≡ block
   copy_in p n = block_of p s.blocks.size block (omega (arith, n.0)) (omega (arith, n.1))
 
-  nexts : (p : ℕ) → IsNext (seen after) p → IsNext (seen before) p
+  nexts : (p : ℕ) → IsNextToProgram (seen after) p → IsNextToProgram (seen before) p
   nexts p n =
       let a : s.active * s.blocks.size ≡ s.active * k.table.size = ap (λ m. s.active * m) size in
       let e = size in
@@ -135,7 +135,7 @@ module _ (s : Kept) (block : ℕ) (k : IsTargeted s block) (some : 0 < s.blocks.
   aimed_tied = record { named = named; phases = phases; behind = λ p h held copy. idle p h held (copy_in p copy) }
 
 -- a Free block was taken, and copies are programmed in it
-module _ (s : Kept) (is : IsFormed s) (tied : IsTied s) (t : Table) (block : ℕ) (is_a : IsTable s.blocks) (is_b : IsTable t) (full : s.blocks.size ≤ s.filled) (r : Restated block false (wear_of (seen s) block) s.blocks t) (free : (use_in s.blocks block).is_free ≡ true) where
+module _ (s : Kept) (is : IsPhysicalFormed s) (tied : IsTied s) (t : Table) (block : ℕ) (is_a : IsBlockTable s.blocks) (is_b : IsBlockTable t) (full : s.blocks.size ≤ s.filled) (r : SetsUse block false (wear_of (seen s) block) s.blocks t) (free : (use_in s.blocks block).is_free ≡ true) where
   pub aimed_readied : IsReadied (seen s) (aimed_at (seen (record s { blocks = t })) block)
   aimed_readied =
       let n = r.numbers in
@@ -189,7 +189,7 @@ module _ (s : Kept) (is : IsFormed s) (tied : IsTied s) (t : Table) (block : ℕ
           none false = refl
 
 -- the block is Free again
-module _ (s : Kept) (is : IsFormed s) (tied : IsTied s) (t : Table) (is_a : IsTable s.blocks) (is_b : IsTable t) (same : SameUse s.blocks t) (marks : SameMarks s.blocks t) where
+module _ (s : Kept) (is : IsPhysicalFormed s) (tied : IsTied s) (t : Table) (is_a : IsBlockTable s.blocks) (is_b : IsBlockTable t) (same : SameUse s.blocks t) (marks : SameMarks s.blocks t) where
   pub again_readied : IsReadied (seen s) (seen (record s { blocks = t }))
   again_readied =
       let n = same.numbers in

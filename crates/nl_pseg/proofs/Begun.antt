@@ -3,11 +3,11 @@ use Rattle.std.proofs.Common.{◌≡◌, ℕ, ◌+◌, ◌-◌, ◌*◌, ◌<◌
 use Rattle.std.proofs.lemmas.List.{length-map}
 use Rattle.nl_blocks.specs.declared.states.BlockState.{BlockState}
 use Rattle.nl_blocks.specs.declared.states.BlockState.TheVariants.{Sealed, Victim}
-use Rattle.nl_blocks.specs.Table.{Table, HasBlock, IsTable, block_at, dead_count, free_count, in_state, is_sealed_state, with_block}
+use Rattle.nl_blocks.specs.Table.{Table, HasBlock, IsBlockTable, block_at, dead_count, free_count, in_state, is_sealed_state, with_block}
 use Rattle.nl_blocks.proofs.TableLaws.{block_at-with_block_same, sum_by-with_block}
 use Rattle.nl_remap.specs.declared.links.Link.{Link}
 use Rattle.nl_remap.specs.Table.{told}
-use Rattle.nl_pseg.specs.Cleaning.{Begins}
+use Rattle.nl_pseg.specs.Cleaning.{BeginsBlock}
 use Rattle.nl_pseg.specs.Segment.{row_in, soiled, wear_with}
 use Rattle.nl_pseg.specs.Seen.{row_of, seen}
 use Rattle.nl_pseg.specs.Space.{HasFewPairs, gain_of}
@@ -21,7 +21,7 @@ use Rattle.nl_pseg_blocks.proofs.Tables.{has_same}
 pub told_length : (pairs : List Link) → length (told pairs) ≡ length pairs
 told_length pairs = length-map pairs (λ p. (p.from, p.to))
 
-module _ (s : Kept) (table : IsTable s.blocks) (none : s.victim ≡ None) (few : length s.names.pairs ≤ 2 * s.blocks.size) (some : 0 < free_count s.blocks) (block : ℕ) (has : HasBlock s.blocks block) (sealed : (block_at s.blocks block).state ≡ Sealed)
+module _ (s : Kept) (table : IsBlockTable s.blocks) (none : s.victim ≡ None) (few : length s.names.pairs ≤ 2 * s.blocks.size) (some : 0 < free_count s.blocks) (block : ℕ) (has : HasBlock s.blocks block) (sealed : (block_at s.blocks block).state ≡ Sealed)
     (t : Table) (whole : t ≡ with_block s.blocks block (in_state (block_at s.blocks block) Victim)) (same : SameUse s.blocks t) where
   abbrev after : Kept
   after = record s { blocks = t; victim = Some block }
@@ -53,7 +53,7 @@ module _ (s : Kept) (table : IsTable s.blocks) (none : s.victim ≡ None) (few :
   blocks_same : (free_count t + count_by (λ (u : Use). u.is_kept && not u.is_free) (map use_of t.blocks)) * t.size ≡ (free_count s.blocks + count_by (λ (u : Use). u.is_kept && not u.is_free) (map use_of s.blocks.blocks)) * s.blocks.size
   blocks_same i = (same.total i + waiting_used s.blocks t same i) * same.numbers.same_size i
 
-  pub begins : Begins block (seen s) (seen (record s { blocks = t; victim = Some block }))
+  pub begins : BeginsBlock block (seen s) (seen (record s { blocks = t; victim = Some block }))
   begins =
       let n = same.numbers in
       record {

@@ -9,12 +9,12 @@ use Rattle.std.proofs.Common.{◌≡◌, inl, inr, ⊎_elim, ℕ, ◌/◌, ◌<�
 use Rattle.std.proofs.lemmas.Option.{none-some}
 use Rattle.std.specs.Bool.{OnFalse, OnTrue}
 use Rattle.nl_field.specs.Page.{Image}
-use Rattle.nl_pseg.specs.Cleaning.{Begins, CannotBegin, IsChosen, NoneChosen}
-use Rattle.nl_pseg.specs.Segment.{HasSpare, IsClean, IsNext, IsNextCopy, IsPhysicalOf, KeepsBlock, Physical, TakenAsErased, held_at, is_kept, is_soiled}
+use Rattle.nl_pseg.specs.Cleaning.{BeginsBlock, CannotBegin, IsChosen, NoneChosen}
+use Rattle.nl_pseg.specs.Segment.{CanSpareBlock, IsClean, IsNextToProgram, IsNextCopy, IsPhysicalOf, KeepsBlock, Physical, TakenAsErased, held_at, is_kept, is_soiled}
 use Rattle.nl_pseg.specs.declared.held.Held.{Held}
 
-module _ {block : ℕ} {old new : Physical} (b : Begins block old new) where
-  next_back : (p : ℕ) → IsNext new p → IsNext old p
+module _ {block : ℕ} {old new : Physical} (b : BeginsBlock block old new) where
+  next_back : (p : ℕ) → IsNextToProgram new p → IsNextToProgram old p
   next_back p n = let a = b.next.0 in let l = b.next.1 in (omega (arith, a, n.0), omega (arith, a, l, n.1))
 
   copy_back : (p : ℕ) → IsNextCopy new p → IsNextCopy old p
@@ -37,7 +37,7 @@ module _ {block : ℕ} {old new : Physical} (b : Begins block old new) where
     blank_copy = λ p next. is.blank_copy p (copy_back p next);
   }
 
-  pub begins_spare : (image : Image) → HasSpare image old → HasSpare image new
+  pub begins_spare : (image : Image) → CanSpareBlock image old → CanSpareBlock image new
   begins_spare image is = record {
     block = is.block;
     from = subst (λ n. n ≤ is.block) (sym b.tables.same_first) is.from;
@@ -64,7 +64,7 @@ pub by_answer : (b : Bool) {A B : Type 0} (C : Type 0) → OnTrue b A → OnFals
 by_answer true C a b done kept = done a
 by_answer false C a b done kept = kept b
 
-none_not : {seg new : Physical} {block : ℕ} (cold : Bool) → IsChosen cold seg block → Begins block seg new → NoneChosen cold seg → ⊥
+none_not : {seg new : Physical} {block : ℕ} (cold : Bool) → IsChosen cold seg block → BeginsBlock block seg new → NoneChosen cold seg → ⊥
 none_not {seg} {new} {block} true chosen begins none =
     let other = chosen.worn refl in
     let low = none block chosen.from chosen.below chosen.sealed other.0 other.1 other.2 in
@@ -73,7 +73,7 @@ none_not {seg} {new} {block} true chosen begins none =
 none_not false chosen begins none = let all = begins.dead in let some = chosen.some refl in omega (arith, all, some, none)
 
 -- a victim was begun, so it could be
-pub can_begin : {cold : Bool} {seg new : Physical} {block : ℕ} → IsChosen cold seg block → Begins block seg new → 0 < seg.free → CannotBegin cold seg → ⊥
+pub can_begin : {cold : Bool} {seg new : Physical} {block : ℕ} → IsChosen cold seg block → BeginsBlock block seg new → 0 < seg.free → CannotBegin cold seg → ⊥
 can_begin {cold} {seg} chosen begins some cannot = ⊎_elim
     (λ one. let none : victims seg ≡ 0 = ap (λ (o : Option ℕ). cond (is_some o) 1 0) begins.none in omega (arith, one, none))
     (λ rest. ⊎_elim

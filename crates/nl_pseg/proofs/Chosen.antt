@@ -5,7 +5,7 @@ use Rattle.std.proofs.lemmas.Option.{none-some, same_Some}
 use Rattle.nl_blocks.specs.declared.states.BlockState.{BlockState}
 use Rattle.nl_blocks.specs.declared.states.BlockState.TheVariants.{Active, Retired, Sealed, Target, Victim}
 use Rattle.nl_blocks.specs.Table.{Table, HasBlock, block_at}
-use Rattle.nl_pseg.specs.Segment.{IsNext, IsNextCopy}
+use Rattle.nl_pseg.specs.Segment.{IsNextToProgram, IsNextCopy}
 use Rattle.nl_pseg.specs.Seen.{IsTied, seen}
 use Rattle.nl_pseg_blocks.specs.Uses.{Use, use_in, SameUse}
 use Rattle.nl_pseg.specs.Kept.{Kept}
@@ -20,7 +20,7 @@ module _ (s : Kept) (tied : IsTied s) (none : s.victim ≡ None) (t : Table) (sa
   size : t.size ≡ s.blocks.size
   size = same.numbers.same_size
 
-  nexts : (p : ℕ) → IsNext (seen after) p → IsNext (seen s) p
+  nexts : (p : ℕ) → IsNextToProgram (seen after) p → IsNextToProgram (seen s) p
   nexts p n =
       let a : s.active * t.size ≡ s.active * s.blocks.size = ap (λ m. s.active * m) size in
       let e = size in

@@ -7,10 +7,10 @@ use Rattle.nl_blocks.specs.Table.{Table, block_at}
 use Rattle.nl_blocks.specs.Used.{is_active_state, is_target_state, used_in}
 use Rattle.nl_blocks.proofs.UsedLaws.{used-full}
 use Rattle.nl_pseg.specs.Kept.{Kept, kept}
-use Rattle.nl_pseg.specs.Segment.{IsNext, TakenAsErased}
-use Rattle.nl_pseg.specs.Seen.{IsFormed, IsTied, seen}
-use Rattle.nl_pseg.specs.Steps.{IsIdle}
-use Rattle.nl_pseg_blocks.specs.Uses.{Restated, SameFill, SameFillBeside, SameNumbers, SameUse, Uses}
+use Rattle.nl_pseg.specs.Segment.{IsNextToProgram, TakenAsErased}
+use Rattle.nl_pseg.specs.Seen.{IsPhysicalFormed, IsTied, seen}
+use Rattle.nl_pseg.specs.Steps.{ClosesBlock}
+use Rattle.nl_pseg_blocks.specs.Uses.{SetsUse, SameFill, SameFillBeside, SameNumbers, SameUse, CountsUsedPage}
 use Rattle.nl_pseg.specs.declared.state.State.{State}
 use Rattle.nl_pseg.proofs.States.{next_block}
 use Rattle.nl_pseg_blocks.proofs.Tables.{IsShut, has_same, numbers_then, shut_sealed}
@@ -25,25 +25,25 @@ shut_used kind t page some other = let u = used-full kind t (page / t.size) othe
 
 -- what a state with the same table says where nothing more is programmed in a block
 pub record Closing (block : ℕ) (s m : Kept) : Type 0 where
-  pub formed : IsFormed m
+  pub formed : IsPhysicalFormed m
   pub used : s.used ≤ m.used
   pub left : m.blocks.size - m.used ≤ s.blocks.size - s.used
   pub idle : m.used < m.blocks.size → block ≡ m.active → ⊥
   pub erased : (p : ℕ) → TakenAsErased (seen m) p → TakenAsErased (seen s) p
   pub still : (p : ℕ) → TakenAsErased (seen s) p → (p / s.blocks.size ≡ block → ⊥) → TakenAsErased (seen m) p
-  pub shut : IsIdle block s m
+  pub shut : ClosesBlock block s m
 
-module _ (s : Kept) (is : IsFormed s) (block u f : ℕ) (i : IsIdle block s (record s { used = u; filled = f })) where
+module _ (s : Kept) (is : IsPhysicalFormed s) (block u f : ℕ) (i : ClosesBlock block s (record s { used = u; filled = f })) where
   abbrev m : Kept
   m = record s { used = u; filled = f }
 
-  next_was : (p : ℕ) → IsNext (seen m) p → IsNext (seen s) p
+  next_was : (p : ℕ) → IsNextToProgram (seen m) p → IsNextToProgram (seen s) p
   next_was p next = ⊎_elim
       (λ here. let e = here.1 in absurd (omega (arith, e, next.0, next.1)))
       (λ there. let e = there.1 in (omega (arith, e, next.0), omega (arith, e, next.0, next.1)))
       i.used
 
-  closed_formed : IsFormed m
+  closed_formed : IsPhysicalFormed m
   closed_formed = record {
     some = is.some;
     numbers = is.numbers;
@@ -86,9 +86,9 @@ module _ (s : Kept) (is : IsFormed s) (block u f : ℕ) (i : IsIdle block s (rec
 abbrev pub closed_by : State → Table → Kept
 closed_by s t = record (kept s) { used = used_in is_active_state t s.active; filled = used_in is_target_state t s.target }
 
-module _ (s : State) (is : IsFormed (kept s)) (tied : IsTied (kept s)) (t : Table) (n : SameNumbers s.blocks t) where
+module _ (s : State) (is : IsPhysicalFormed (kept s)) (tied : IsTied (kept s)) (t : Table) (n : SameNumbers s.blocks t) where
   module _ (block : ℕ) (fill : SameFillBeside block s.blocks t) (shut : IsShut (block_at t block).state) where
-    is_idle : IsIdle block (kept s) (closed_by s t)
+    is_idle : ClosesBlock block (kept s) (closed_by s t)
     is_idle = record {
       active = refl;
       target = refl;
@@ -106,12 +106,12 @@ module _ (s : State) (is : IsFormed (kept s)) (tied : IsTied (kept s)) (t : Tabl
     closing = closed (kept s) is block (used_in is_active_state t s.active) (used_in is_target_state t s.target) is_idle
 
 -- as many pages are used as before
-pub same_counted : (s : State) → IsFormed (kept s) → IsTied (kept s) → (t : Table) → SameFill s.blocks t → kept s ≡ closed_by s t
+pub same_counted : (s : State) → IsPhysicalFormed (kept s) → IsTied (kept s) → (t : Table) → SameFill s.blocks t → kept s ≡ closed_by s t
 same_counted s is tied t fill = as_counted (kept s) (used_in is_active_state t s.active) (used_in is_target_state t s.target) (fill.used s.active is.active_in) (fill.filled s.target tied.phases.target_in)
 
 -- a block was shut, and a page of it marked
-pub marked_closing : (s : State) → IsFormed (kept s) → IsTied (kept s) → (block page wear : ℕ) (mid t : Table) → Restated block false wear s.blocks mid → (block_at mid block).state ≡ Sealed → page / mid.size ≡ block → SameUse mid t
-    → ((b : ℕ) → (block_at t b).state ≡ (block_at mid b).state) → Uses is_active_state page mid t → Uses is_target_state page mid t → Closing block (kept s) (closed_by s t)
+pub marked_closing : (s : State) → IsPhysicalFormed (kept s) → IsTied (kept s) → (block page wear : ℕ) (mid t : Table) → SetsUse block false wear s.blocks mid → (block_at mid block).state ≡ Sealed → page / mid.size ≡ block → SameUse mid t
+    → ((b : ℕ) → (block_at t b).state ≡ (block_at mid b).state) → CountsUsedPage is_active_state page mid t → CountsUsedPage is_target_state page mid t → Closing block (kept s) (closed_by s t)
 marked_closing s is tied block page wear mid t r sealed at same states uses fills =
     let some : 0 < mid.size = subst (λ k. 0 < k) (sym r.numbers.same_size) is.some in
     let state : (block_at mid (page / mid.size)).state ≡ Sealed = ap (λ b. (block_at mid b).state) at ∙ sealed in

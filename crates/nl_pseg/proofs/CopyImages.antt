@@ -4,11 +4,11 @@ use Rattle.std.proofs.lemmas.Bool.{true≢false}
 use Rattle.std.proofs.lemmas.Option.{none-some}
 use Rattle.nl_field.specs.Page.{Image, Page, page_at}
 use Rattle.nl_nand.specs.Nand.{Cut}
-use Rattle.nl_pseg.specs.Effects.{Keeps}
+use Rattle.nl_pseg.specs.Effects.{PreservesSegment}
 use Rattle.nl_pseg_pages.specs.Pages.{main_of, shown_by}
-use Rattle.nl_pseg.specs.Segment.{HasSpare, InVictim, IsDead, IsNext, IsNextCopy, IsPhysicalOf, Physical, TakenAsErased, held_at, is_kept, is_soiled}
+use Rattle.nl_pseg.specs.Segment.{CanSpareBlock, InVictim, IsDead, IsNextToProgram, IsNextCopy, IsPhysicalOf, Physical, TakenAsErased, held_at, is_kept, is_soiled}
 use Rattle.nl_pseg_blocks.specs.Uses.{Use}
-use Rattle.nl_pseg.specs.Seen.{IsFormed, IsTied, seen}
+use Rattle.nl_pseg.specs.Seen.{IsPhysicalFormed, IsTied, seen}
 use Rattle.nl_pseg.specs.Steps.{IsCopyUsed, IsLed, IsReadied}
 use Rattle.nl_pseg.specs.declared.held.Held.{Held}
 use Rattle.nl_pseg.specs.Kept.{Kept}
@@ -22,7 +22,7 @@ no_some None never = refl
 no_some (Some h) never = absurd (never h refl)
 
 -- the page that the next copy is programmed on is not live
-module _ (s : Kept) (is : IsFormed s) (tied : IsTied s) (room : s.filled < s.blocks.size) where
+module _ (s : Kept) (is : IsPhysicalFormed s) (tied : IsTied s) (room : s.filled < s.blocks.size) where
   pub copy_dead : IsDead (seen s) (seen s).copy_next
   copy_dead = record {
     within = copy_segment s is tied room;
@@ -36,20 +36,20 @@ module _ (s : Kept) (is : IsFormed s) (tied : IsTied s) (room : s.filled < s.blo
 
 -- the next page for copies was used
 module _ {x : Option Held} {seg new : Physical} (u : IsCopyUsed x seg new) where
-  next_back : (p : ℕ) → IsNext new p → IsNext seg p
+  next_back : (p : ℕ) → IsNextToProgram new p → IsNextToProgram seg p
   next_back p n = let a = u.next.0 in let l = u.next.1 in (omega (arith, a, n.0), omega (arith, a, l, n.1))
 
   copy_back : (p : ℕ) → IsNextCopy new p → IsNextCopy seg p × (p ≡ seg.copy_next → ⊥)
   copy_back p n = let a = u.copy_next in let l = u.copy_left in ((omega (arith, a, n.0), omega (arith, a, l, n.1)), λ e. omega (arith, a, e, n.0))
 
-  taken_back : is_kept seg (seg.copy_next / seg.size) ≡ false → (IsNext seg seg.copy_next → ⊥) → (p : ℕ) → TakenAsErased new p → TakenAsErased seg p × (p ≡ seg.copy_next → ⊥)
-  taken_back in_use behind p (inl next) = (inl (next_back p next), λ e. behind (subst (IsNext seg) e (next_back p next)))
+  taken_back : is_kept seg (seg.copy_next / seg.size) ≡ false → (IsNextToProgram seg seg.copy_next → ⊥) → (p : ℕ) → TakenAsErased new p → TakenAsErased seg p × (p ≡ seg.copy_next → ⊥)
+  taken_back in_use behind p (inl next) = (inl (next_back p next), λ e. behind (subst (IsNextToProgram seg) e (next_back p next)))
   taken_back in_use behind p (inr free) =
       let at : is_kept seg (p / seg.size) ≡ true = ap (λ (w : Use). w.is_kept) (sym (u.uses (p / seg.size))) ∙ (ap (λ n. is_kept new (p / n)) (sym u.pages.same_size) ∙ free.0) in
       let clean : is_soiled seg (p / seg.size) ≡ false = ap (λ (l : List (Option ℕ)). is_soiled (record seg { soiled = l }) (p / seg.size)) (sym u.soiled) ∙ (ap (λ n. is_soiled new (p / n)) (sym u.pages.same_size) ∙ free.1) in
       (inr (at, clean), λ e. true≢false (sym at ∙ (ap (λ q. is_kept seg (q / seg.size)) e ∙ in_use)))
 
-  pub after_copy : {value : Page} {old c : Image} → seg.copy_next < length seg.held → is_kept seg (seg.copy_next / seg.size) ≡ false → (IsNext seg seg.copy_next → ⊥) → IsPhysicalOf old seg → Cut seg.copy_next (seg.copy_next + 1) value old c
+  pub after_copy : {value : Page} {old c : Image} → seg.copy_next < length seg.held → is_kept seg (seg.copy_next / seg.size) ≡ false → (IsNextToProgram seg seg.copy_next → ⊥) → IsPhysicalOf old seg → Cut seg.copy_next (seg.copy_next + 1) value old c
       → ((h : Held) → x ≡ Some h → shown_by (page_at c seg.copy_next) ≡ Some (h.tag, h.stamp, main_of (page_at c seg.copy_next))) → IsPhysicalOf c new
   after_copy {value} {old} {c} within in_use behind was cut shows = record {
     holds = λ p h named. ⊎_elim
@@ -79,7 +79,7 @@ after_led {before} {after} {seg} {new} {c} l within was = record {
     )
 
 -- an image that keeps the segment has a spare block still
-pub keeps_spare : {seg : Physical} {old c : Image} → Keeps seg old c → HasSpare old seg → HasSpare c seg
+pub keeps_spare : {seg : Physical} {old c : Image} → PreservesSegment seg old c → CanSpareBlock old seg → CanSpareBlock c seg
 keeps_spare {seg} {old} {c} keeps is = record {
   block = is.block;
   from = is.from;
@@ -94,7 +94,7 @@ keeps_spare {seg} {old} {c} keeps is = record {
     stays p not_dead = ⊎_elim (λ same. same) (λ dead. absurd (not_dead dead.0)) (keeps.each p)
 
 -- a block may take copies
-pub readied_spare : {seg mid : Physical} {c : Image} → IsReadied seg mid → HasSpare c seg → HasSpare c mid
+pub readied_spare : {seg mid : Physical} {c : Image} → IsReadied seg mid → CanSpareBlock c seg → CanSpareBlock c mid
 readied_spare {seg} {mid} {c} r is = record {
   block = is.block;
   from = subst (λ n. n ≤ is.block) (sym r.pages.same_first) is.from;
@@ -106,7 +106,7 @@ readied_spare {seg} {mid} {c} r is = record {
 }
 
 -- a page was used for a copy that failed
-pub failed_spare : {seg new : Physical} {value : Page} {old c : Image} → IsCopyUsed None seg new → IsDead seg seg.copy_next → new.held ≡ seg.held → Cut seg.copy_next (seg.copy_next + 1) value old c → HasSpare old seg → HasSpare c new
+pub failed_spare : {seg new : Physical} {value : Page} {old c : Image} → IsCopyUsed None seg new → IsDead seg seg.copy_next → new.held ≡ seg.held → Cut seg.copy_next (seg.copy_next + 1) value old c → CanSpareBlock old seg → CanSpareBlock c new
 failed_spare {seg} {new} {value} {old} {c} u dead held_is cut is = record {
   block = is.block;
   from = subst (λ n. n ≤ is.block) (sym u.pages.same_first) is.from;
@@ -124,7 +124,7 @@ failed_spare {seg} {new} {value} {old} {c} u dead held_is cut is = record {
 
 -- a copy was programmed: where its block was to be done without, it stands in the victim too
 pub copied_spare : {before : ℕ} {h : Held} {seg mid new : Physical} {value : Page} {old c : Image} → IsCopyUsed (Some h) seg mid → IsLed before seg.copy_next mid new → InVictim seg before → IsDead seg seg.copy_next → seg.copy_next < length seg.held → before < length mid.held
-    → Cut seg.copy_next (seg.copy_next + 1) value old c → shown_by (page_at old before) ≡ shown_by (page_at c seg.copy_next) → HasSpare old seg → HasSpare c new
+    → Cut seg.copy_next (seg.copy_next + 1) value old c → shown_by (page_at old before) ≡ shown_by (page_at c seg.copy_next) → CanSpareBlock old seg → CanSpareBlock c new
 copied_spare {before} {h} {seg} {mid} {new} {value} {old} {c} u l victim dead within within_mid cut same is = record {
   block = is.block;
   from = subst (λ n. n ≤ is.block) (sym (l.pages.same_first ∙ u.pages.same_first)) is.from;

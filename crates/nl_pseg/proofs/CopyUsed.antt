@@ -6,10 +6,10 @@ use Rattle.std.proofs.lemmas.List.{get_or-set_other}
 use Rattle.nl_field.specs.Spelling.{is_stamp}
 use Rattle.nl_blocks.specs.declared.states.BlockState.{BlockState}
 use Rattle.nl_blocks.specs.declared.states.BlockState.TheVariants.{Active, Retired, Sealed, Target, Victim}
-use Rattle.nl_blocks.specs.Table.{Table, HasBlock, HasPage, IsTable, block_at}
+use Rattle.nl_blocks.specs.Table.{Table, HasBlock, HasPage, IsBlockTable, block_at}
 use Rattle.nl_blocks.specs.Table.{page_at as page_in}
-use Rattle.nl_pseg.specs.Segment.{InSegment, IsNext, IsNextCopy, held_at, is_kept, soiled, wear_with}
-use Rattle.nl_pseg.specs.Seen.{AreMarked, ArePlaces, HasPhases, IsFormed, IsNamed, IsTied, seen}
+use Rattle.nl_pseg.specs.Segment.{InSegment, IsNextToProgram, IsNextCopy, held_at, is_kept, soiled, wear_with}
+use Rattle.nl_pseg.specs.Seen.{AreMarked, AreLivePlaces, HasPhases, IsPhysicalFormed, IsNamed, IsTied, seen}
 use Rattle.nl_pseg.specs.Steps.{IsCopyUsed}
 use Rattle.nl_pseg_blocks.specs.Uses.{Use, use_at, is_kept_state, SameUse}
 use Rattle.nl_pseg.specs.declared.held.Held.{Held}
@@ -23,7 +23,7 @@ use Rattle.nl_pseg_blocks.proofs.Tables.{has_same, use_here}
 use Rattle.nl_pseg.proofs.Tied.{back, named_on}
 
 -- the page that the next copy is programmed on
-module _ (s : Kept) (is : IsFormed s) (tied : IsTied s) (room : s.filled < s.blocks.size) where
+module _ (s : Kept) (is : IsPhysicalFormed s) (tied : IsTied s) (room : s.filled < s.blocks.size) where
   pub is_copy : IsNextCopy (seen s) (s.target * s.blocks.size + s.filled)
   is_copy = (omega arith, omega (arith, room))
 
@@ -40,7 +40,7 @@ module _ (s : Kept) (is : IsFormed s) (tied : IsTied s) (room : s.filled < s.blo
   copy_in_use = ap (λ (u : Use). u.is_kept) (use_here s.blocks s.target tied.phases.target_in) ∙ ap (λ (b : BlockState). is_kept_state b) (tied.phases.filling room)
 
   -- the page of the copy is not one that is programmed next
-  pub copy_behind : IsNext (seen s) (s.target * s.blocks.size + s.filled) → ⊥
+  pub copy_behind : IsNextToProgram (seen s) (s.target * s.blocks.size + s.filled) → ⊥
   copy_behind next =
       let fits = is.used_fits in
       let used : s.used < s.blocks.size = omega (arith, next.0, next.1, fits) in
@@ -51,7 +51,7 @@ module _ (s : Kept) (is : IsFormed s) (tied : IsTied s) (room : s.filled < s.blo
   pub copy_apart : s.victim ≡ Some s.target → ⊥
   copy_apart named = cc (sym (tied.phases.victim_in s.target named).1 ∙ tied.phases.filling room)
 
-module _ (s : Kept) (is : IsFormed s) (tied : IsTied s) (room : s.filled < s.blocks.size) (t : Table) (same : SameUse s.blocks t) (page : ℕ) (at : page ≡ s.target * s.blocks.size + s.filled) (x : Option Held)
+module _ (s : Kept) (is : IsPhysicalFormed s) (tied : IsTied s) (room : s.filled < s.blocks.size) (t : Table) (same : SameUse s.blocks t) (page : ℕ) (at : page ≡ s.target * s.blocks.size + s.filled) (x : Option Held)
     (more : s.filled + 1 < s.blocks.size → (block_at t s.target).state ≡ Target) (done : (s.filled + 1 < s.blocks.size → ⊥) → (block_at t s.target).state ≡ Sealed)
     (others : (b : ℕ) → HasBlock s.blocks b → (b ≡ s.target → ⊥) → (block_at t b).state ≡ (block_at s.blocks b).state) where
   abbrev new : Kept
@@ -72,7 +72,7 @@ module _ (s : Kept) (is : IsFormed s) (tied : IsTied s) (room : s.filled < s.blo
       let e = size in
       ((omega (arith, a, n.0), omega (arith, a, e, room, n.0, n.1)), λ here. omega (arith, a, at, here, n.0))
 
-  nexts : (p : ℕ) → IsNext (seen new) p → IsNext (seen s) p
+  nexts : (p : ℕ) → IsNextToProgram (seen new) p → IsNextToProgram (seen s) p
   nexts p n =
       let a : s.active * t.size ≡ s.active * s.blocks.size = ap (λ k. s.active * k) size in
       let e = size in
@@ -139,13 +139,13 @@ module _ (s : Kept) (is : IsFormed s) (tied : IsTied s) (room : s.filled < s.blo
         (set_held s.held.items page x within p h held);
   }
 
-  places : IfSome x (λ h. IsTrue (is_stamp h.stamp)) → ArePlaces (seen new)
+  places : IfSome x (λ h. IsTrue (is_stamp h.stamp)) → AreLivePlaces (seen new)
   places spelled = record {
     each = λ p h held. ⊎_elim
         (λ e. record {
           within = subst (λ q. (t.first * t.size ≤ q) × (q < (t.first + length t.blocks) * t.size)) (sym (e.0 ∙ at)) inside;
           in_use = ap (λ q. is_kept (seen new) (q / t.size)) (e.0 ∙ at) ∙ (ap (λ k. is_kept (seen new) ((s.target * s.blocks.size + s.filled) / k)) size ∙ (ap (is_kept (seen new)) (copy_block s is tied room) ∙ (ap (λ (u : Use). u.is_kept) (same.uses s.target) ∙ copy_in_use s is tied room)));
-          behind = λ n. copy_behind s is tied room (subst (IsNext (seen s)) (e.0 ∙ at) (nexts p n));
+          behind = λ n. copy_behind s is tied room (subst (IsNextToProgram (seen s)) (e.0 ∙ at) (nexts p n));
           spelled = subst (λ (y : Option Held). IfSome y (λ k. IsTrue (is_stamp k.stamp))) e.1 spelled;
         })
         (λ e.
@@ -160,7 +160,7 @@ module _ (s : Kept) (is : IsFormed s) (tied : IsTied s) (room : s.filled < s.blo
           let w = copy_segment s is tied room in
           (subst (λ k. k ≤ s.target * s.blocks.size + s.filled) (λ i. sym same.numbers.same_first i * sym size i) w.0, subst (λ k. s.target * s.blocks.size + s.filled < k) (λ i. (sym same.numbers.same_first i + sym same.numbers.same_count i) * sym size i) w.1)
 
-  pub copied_formed : IfSome x (λ h. IsTrue (is_stamp h.stamp)) → AreMarked t (set s.held.items page x) → (s.used < s.blocks.size → (block_at s.blocks s.active).state ≡ Active) → IsFormed (record s { held = with_item s.held page x; blocks = t; filled = s.filled + 1 })
+  pub copied_formed : IfSome x (λ h. IsTrue (is_stamp h.stamp)) → AreMarked t (set s.held.items page x) → (s.used < s.blocks.size → (block_at s.blocks s.active).state ≡ Active) → IsPhysicalFormed (record s { held = with_item s.held page x; blocks = t; filled = s.filled + 1 })
   copied_formed spelled marked taken =
       let n = same.numbers in
       let bound : (t.first + length t.blocks) * t.size ≡ (s.blocks.first + length s.blocks.blocks) * s.blocks.size = (λ i. (n.same_first i + n.same_count i) * n.same_size i) in
@@ -178,7 +178,7 @@ module _ (s : Kept) (is : IsFormed s) (tied : IsTied s) (room : s.filled < s.blo
         marked = marked;
       }
 
-  pub copied : IsTable s.blocks → IsTable t → ((p : ℕ) → HasPage s.blocks p → (p ≡ page → ⊥) → (page_in t p).state ≡ (page_in s.blocks p).state) → IsCopyUsed x (seen s) (seen (record s { held = with_item s.held page x; blocks = t; filled = s.filled + 1 }))
+  pub copied : IsBlockTable s.blocks → IsBlockTable t → ((p : ℕ) → HasPage s.blocks p → (p ≡ page → ⊥) → (page_in t p).state ≡ (page_in s.blocks p).state) → IsCopyUsed x (seen s) (seen (record s { held = with_item s.held page x; blocks = t; filled = s.filled + 1 }))
   copied is_a is_b marks =
       let n = same.numbers in
       let over = left_over (seen s) (seen new) refl n.same_size (λ b named. dead_kept s tied t is_a is_b n b named (λ p has in_block. marks p has (λ e.

@@ -1,5 +1,5 @@
 -- The counts of a medium over two calls.
-use Rattle.nl_pseg.specs.Answers.{IsFault, IsPlaced}
+use Rattle.nl_pseg.specs.Answers.{IsWriteFault, IsPlaced}
 use Rattle.nl_field.specs.declared.pointer.Pointer.{Pointer}
 use Rattle.std.proofs.Common.{◌≡◌, inl, inr, ℕ, ◌+◌, ◌≤◌, refl, ◌∙◌, ap, arith, ⊎_elim, ◌<◌, ◌↔◌, Bool, false, IsTrue, sym}
 use Rattle.std.proofs.lemmas.Bool.{cases_lt, true≢false}
@@ -7,12 +7,12 @@ use Rattle.nl_field.specs.CrashStates.{Earlier, saturated, top}
 use Rattle.nl_field.specs.declared.answers.Named.{Named}
 use Rattle.nl_field.specs.declared.answers.Named.TheVariants as the
 use Rattle.nl_nand.specs.Nand.{FaultsCounted}
-use Rattle.nl_pseg.specs.Effects.{Counted}
+use Rattle.nl_pseg.specs.Effects.{WriteCounted}
 
 module _ {M : Type 0} {clock read_faults write_faults : M → ℕ} where
   -- an erase failed
   pub counted_failed : {ready failed : Type 0} {a b : M} → (clock a ≤ clock b) × (clock b ≤ clock a + 1) → (ready → clock b ≡ clock a) → read_faults b ≡ read_faults a → FaultsCounted (write_faults a) (write_faults b) failed → failed
-      → Counted clock read_faults write_faults ready a b the.Fault
+      → WriteCounted clock read_faults write_faults ready a b the.Fault
   counted_failed {ready} {failed} {a} {b} within still reads writes f = record {
     later = within.0;
     few = omega (arith, within.1);
@@ -25,7 +25,7 @@ module _ {M : Type 0} {clock read_faults write_faults : M → ℕ} where
     well = λ not. absurd (not refl);
   }
 
-  few_is : {ready : Type 0} (a : M) {b d : M} (answer : Named) → ready → clock b ≤ clock a + 1 → Counted clock read_faults write_faults ready b d answer → clock d ≤ clock a + 2
+  few_is : {ready : Type 0} (a : M) {b d : M} (answer : Named) → ready → clock b ≤ clock a + 1 → WriteCounted clock read_faults write_faults ready b d answer → clock d ≤ clock a + 2
   few_is a (the.Placed at) r within c = let e = c.one r tt in omega (arith, e, within)
   few_is a the.NotLive r within c = let e = c.none r (λ p. p) in omega (arith, e, within)
   few_is a the.NoPage r within c = let e = c.none r (λ p. p) in omega (arith, e, within)
@@ -33,7 +33,7 @@ module _ {M : Type 0} {clock read_faults write_faults : M → ℕ} where
 
   -- a call that did not fail, and then a program
   pub counted_then : {ready more failed : Type 0} {a b d : M} (answer : Named) → (clock a ≤ clock b) × (clock b ≤ clock a + 1) → (ready → clock b ≡ clock a) → read_faults b ≡ read_faults a → FaultsCounted (write_faults a) (write_faults b) failed
-      → (failed → ⊥) → more → Counted clock read_faults write_faults more b d answer → Counted clock read_faults write_faults ready a d answer
+      → (failed → ⊥) → more → WriteCounted clock read_faults write_faults more b d answer → WriteCounted clock read_faults write_faults ready a d answer
   counted_then {ready} {more} {failed} {a} {b} {d} answer within still reads writes well r c = record {
     later = omega (arith, within.0, c.later);
     few = few_is a answer r within.1 c;
@@ -53,7 +53,7 @@ module _ {M : Type 0} {clock read_faults write_faults : M → ℕ} where
       ]
 
   -- nothing was done
-  pub nothing_counted : {ready : Type 0} (a : M) (answer : Named) → (IsPlaced answer → ⊥) → (IsFault answer → ⊥) → Counted clock read_faults write_faults ready a a answer
+  pub nothing_counted : {ready : Type 0} (a : M) (answer : Named) → (IsPlaced answer → ⊥) → (IsWriteFault answer → ⊥) → WriteCounted clock read_faults write_faults ready a a answer
   nothing_counted a answer none well = record {
     later = omega arith;
     few = omega arith;
@@ -67,7 +67,7 @@ module _ {M : Type 0} {clock read_faults write_faults : M → ℕ} where
   }
 
   -- a program failed
-  pub program_failed : {ready failed : Type 0} {a b : M} → clock b ≡ clock a → read_faults b ≡ read_faults a → FaultsCounted (write_faults a) (write_faults b) failed → failed → Counted clock read_faults write_faults ready a b the.Fault
+  pub program_failed : {ready failed : Type 0} {a b : M} → clock b ≡ clock a → read_faults b ≡ read_faults a → FaultsCounted (write_faults a) (write_faults b) failed → failed → WriteCounted clock read_faults write_faults ready a b the.Fault
   program_failed still reads writes f = record {
     later = omega (arith, still);
     few = omega (arith, still);
@@ -82,7 +82,7 @@ module _ {M : Type 0} {clock read_faults write_faults : M → ℕ} where
 
   -- a page was programmed
   pub program_done : {ready failed : Type 0} {a b : M} (at : Pointer) → clock a ≤ clock b → clock b ≡ saturated (clock a + 1) → read_faults b ≡ read_faults a → FaultsCounted (write_faults a) (write_faults b) failed → (failed → ⊥)
-      → Counted clock read_faults write_faults ready a b (the.Placed at)
+      → WriteCounted clock read_faults write_faults ready a b (the.Placed at)
   program_done at later tick reads writes well = record {
     later = later;
     few = omega (arith, tick);

@@ -11,8 +11,8 @@ use Rattle.nl_remap.specs.declared.links.Link.{Link}
 use Rattle.nl_remap.proofs.LinksProofs.{HasLink-remove_back}
 use Rattle.nl_remap.proofs.TableProofs.{IsOld-remove_back}
 use Rattle.nl_pseg_names.specs.OldNames.{NameTable, names_among}
-use Rattle.nl_pseg.specs.Segment.{IsNext, IsNextCopy, held_at}
-use Rattle.nl_pseg.specs.Seen.{IsFormed, IsTied, seen}
+use Rattle.nl_pseg.specs.Segment.{IsNextToProgram, IsNextCopy, held_at}
+use Rattle.nl_pseg.specs.Seen.{IsPhysicalFormed, IsTied, seen}
 use Rattle.nl_pseg_blocks.specs.Uses.{Use, use_in, SameMarks, SameNumbers}
 use Rattle.nl_pseg.specs.declared.held.Held.{Held}
 use Rattle.nl_pseg.specs.Kept.{Kept}
@@ -76,7 +76,7 @@ module _ (s x : Kept) (tied : IsTied s) (name : ℕ) (old : IsOld s.names.pairs 
   fewer : (b : ℕ) → names_among s.blocks.size b x.names.pairs + cond (name / s.blocks.size == b) 1 0 ≡ names_among s.blocks.size b s.names.pairs
   fewer b = ap (λ (l : List Link). names_among s.blocks.size b l + cond (name / s.blocks.size == b) 1 0) pairs_are ∙ names_taken s.blocks.size b name s.names.pairs tied.named.remap old
 
-  nexts : (p : ℕ) → IsNext (seen x) p → IsNext (seen s) p
+  nexts : (p : ℕ) → IsNextToProgram (seen x) p → IsNextToProgram (seen s) p
   nexts p is =
       let a : x.active * x.blocks.size ≡ s.active * s.blocks.size = (λ i. next.0 i * size i) in
       let u = next.1 in
@@ -194,8 +194,8 @@ module _ (s x : Kept) (tied : IsTied s) (name : ℕ) (old : IsOld s.names.pairs 
       }
 
 -- the table of blocks keeps what it keeps for the cleaner, and the pairs are others
-pub formed_names : (s : Kept) → IsFormed s → (t : Table) (names : NameTable) → SameNumbers s.blocks t → ((b : ℕ) → (use_in t b).is_kept ≡ (use_in s.blocks b).is_kept) → SameMarks s.blocks t
-    → (s.used < s.blocks.size → (block_at t s.active).state ≡ the.Active) → IsFormed (record s { blocks = t; names = names })
+pub formed_names : (s : Kept) → IsPhysicalFormed s → (t : Table) (names : NameTable) → SameNumbers s.blocks t → ((b : ℕ) → (use_in t b).is_kept ≡ (use_in s.blocks b).is_kept) → SameMarks s.blocks t
+    → (s.used < s.blocks.size → (block_at t s.active).state ≡ the.Active) → IsPhysicalFormed (record s { blocks = t; names = names })
 formed_names s is t names n kept marks active =
     let f = formed_table s is t n active (λ p h named. kept (p / s.blocks.size) ∙ (is.places.each p h named).in_use) marks in
     record {

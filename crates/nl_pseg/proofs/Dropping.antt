@@ -7,17 +7,17 @@ use Rattle.nl_remap.specs.declared.links.Link.{Link}
 use Rattle.nl_remap.proofs.Ways.{place_is}
 use Rattle.nl_pseg.specs.Cleaning.{without_name}
 use Rattle.nl_pseg.specs.Segment.{without_target}
-use Rattle.nl_pseg.specs.Seen.{IsFormed, IsTied, seen}
-use Rattle.nl_pseg.specs.Steps.{NamesGone}
+use Rattle.nl_pseg.specs.Seen.{IsPhysicalFormed, IsTied, seen}
+use Rattle.nl_pseg.specs.Steps.{NamesGoneFromSegment}
 use Rattle.nl_pseg.specs.Kept.{Kept}
 use Rattle.nl_pseg_names.proofs.Named.{old_within}
 
 pub record Dropping (target : ℕ) (first now : Kept) : Type 0 where
-  pub formed : IsFormed now
+  pub formed : IsPhysicalFormed now
   pub tied : IsTied now
   pub beside : beside now.names.pairs target ≡ beside first.names.pairs target
   pub held : now.held ≡ first.held
-  pub gone : NamesGone (seen first) (seen now)
+  pub gone : NamesGoneFromSegment (seen first) (seen now)
 
 told_cond : (b : Bool) (x : Link) (l : List Link) → told (cond b (x ∷ l) l) ≡ cond b ((x.from, x.to) ∷ told l) (told l)
 told_cond true x l = refl

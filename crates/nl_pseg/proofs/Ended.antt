@@ -3,10 +3,10 @@ use Rattle.std.proofs.Common.{◌≡◌, ◌⊎◌, inl, inr, ⊎_elim, ℕ, ◌
 use Rattle.std.proofs.lemmas.Bool.{cases_Bool, true≢false}
 use Rattle.std.proofs.lemmas.Option.{none-some}
 use Rattle.nl_field.specs.Page.{Image}
-use Rattle.nl_pseg.specs.Segment.{HasSpare, InSegment, IsClean, IsNext, IsPhysicalOf, IsUnspent, KeepsBlock, Physical, SameNames, SamePages, TakenAsErased, held_at, is_free, is_kept, is_soiled, is_waiting, room, soiled, without_target}
+use Rattle.nl_pseg.specs.Segment.{CanSpareBlock, InSegment, IsClean, IsNextToProgram, IsPhysicalOf, IsUnspent, KeepsBlock, Physical, SameNames, SameBlocksAndPages, TakenAsErased, held_at, is_free, is_kept, is_soiled, is_waiting, room, soiled, without_target}
 use Rattle.nl_pseg_blocks.specs.Uses.{use_at}
-use Rattle.nl_pseg.specs.Space.{GivesBack, HasFewPairs, Lessens, gain_of, landing, left_of, reach, victims, waiting}
-use Rattle.nl_pseg.specs.Steps.{Ends, NamesGone}
+use Rattle.nl_pseg.specs.Space.{GivesBackBlocks, HasFewPairs, Lessens, gain_of, landing, left_in_victim, reach, victims, waiting}
+use Rattle.nl_pseg.specs.Steps.{EndsPage, NamesGoneFromSegment}
 use Rattle.nl_pseg.specs.declared.held.Held.{Held}
 use Rattle.nl_pseg.proofs.Numbers.{block_from}
 use Rattle.nl_pseg.proofs.Segments.{copy_same, set_held}
@@ -14,7 +14,7 @@ use Rattle.nl_pseg.proofs.Waits.{none_waits, wait_by, wait_is, waiting_same}
 use Rattle.nl_pseg.proofs.Wearing.{wear_same}
 
 -- a name is gone, and then another one
-pub gone_then : {a b c : Physical} → NamesGone a b → NamesGone b c → NamesGone a c
+pub gone_then : {a b c : Physical} → NamesGoneFromSegment a b → NamesGoneFromSegment b c → NamesGoneFromSegment a c
 gone_then {a} {b} {c} f g = record {
   range = record { range_first = g.range.range_first ∙ f.range.range_first; range_blocks = g.range.range_blocks ∙ f.range.range_blocks; range_size = g.range.range_size ∙ f.range.range_size };
   next = (g.next.0 ∙ f.next.0, g.next.1 ∙ f.next.1);
@@ -31,7 +31,7 @@ gone_then {a} {b} {c} f g = record {
   fewer = let x = f.fewer in let y = g.fewer in omega (arith, x, y);
 }
 
-pub gone_none : (a : Physical) → ((block : ℕ) → is_kept a block ≡ false → is_free a block ≡ false) → NamesGone a a
+pub gone_none : (a : Physical) → ((block : ℕ) → is_kept a block ≡ false → is_free a block ≡ false) → NamesGoneFromSegment a a
 gone_none a none = record {
   range = record { range_first = refl; range_blocks = refl; range_size = refl };
   next = (refl, refl);
@@ -49,8 +49,8 @@ gone_none a none = record {
 }
 
 -- the page dies then
-pub ends : {old mid new : Physical} (page : ℕ) → InSegment old page → NamesGone old mid → mid.held ≡ old.held → mid.pairs ≡ without_target page old.pairs → SamePages mid new → IsUnspent mid new → SameNames mid new
-    → new.held ≡ set mid.held page None → Ends page old new
+pub ends : {old mid new : Physical} (page : ℕ) → InSegment old page → NamesGoneFromSegment old mid → mid.held ≡ old.held → mid.pairs ≡ without_target page old.pairs → SameBlocksAndPages mid new → IsUnspent mid new → SameNames mid new
+    → new.held ≡ set mid.held page None → EndsPage page old new
 ends {old} {mid} {new} page within g held pairs same space names now = record {
   within = within;
   pairs = names.same_pairs ∙ pairs;
@@ -77,21 +77,21 @@ ends {old} {mid} {new} page within g held pairs same space names now = record {
 }
 
 -- there are few pairs still
-pub few_on : (old new : Physical) → new.victim ≡ old.victim → new.size ≡ old.size → length new.pairs ≤ length old.pairs → left_of new ≤ left_of old → HasFewPairs old → HasFewPairs new
+pub few_on : (old new : Physical) → new.victim ≡ old.victim → new.size ≡ old.size → length new.pairs ≤ length old.pairs → left_in_victim new ≤ left_in_victim old → HasFewPairs old → HasFewPairs new
 few_on old new victim size pairs left few one =
     let was : victims old ≡ 1 = ap (λ (v : Option ℕ). victims (record old { victim = v })) (sym victim) ∙ one in
     let bound = few was in
     omega (arith, bound, size, pairs, left)
 
 -- what is live was
-pub ended_was : {page : ℕ} {old new : Physical} → Ends page old new → page < length old.held → (p : ℕ) (h : Held) → held_at new p ≡ Some h → held_at old p ≡ Some h
+pub ended_was : {page : ℕ} {old new : Physical} → EndsPage page old new → page < length old.held → (p : ℕ) (h : Held) → held_at new p ≡ Some h → held_at old p ≡ Some h
 ended_was {page} {old} {new} d within p h live = ⊎_elim
     (λ here. absurd (none-some h here.1))
     (λ there. there.1)
     (set_held old.held page None within p h (ap (λ (l : List (Option Held)). get_or l p None) (sym d.held) ∙ live))
 
-module _ {old new : Physical} (g : NamesGone old new) where
-  pub gone_pages : SamePages old new
+module _ {old new : Physical} (g : NamesGoneFromSegment old new) where
+  pub gone_pages : SameBlocksAndPages old new
   gone_pages = record { same_first = g.range.range_first; same_blocks = g.range.range_blocks; same_size = g.range.range_size; same_wear = λ k. wear_same (use_at old.first old.uses k) (use_at new.first new.uses k) (soiled old k) (soiled new k) (g.kept k) (g.wears k) (g.same_soiled k) }
 
   pub more_landing : landing old ≤ landing new
@@ -101,7 +101,7 @@ module _ {old new : Physical} (g : NamesGone old new) where
       let d = g.copies.1 in
       omega (arith, a, e, d)
 
-  pub gone_lessens : (gone : ℕ) → left_of new ≤ left_of old → left_of old ≤ left_of new + gone → Lessens gone old new
+  pub gone_lessens : (gone : ℕ) → left_in_victim new ≤ left_in_victim old → left_in_victim old ≤ left_in_victim new + gone → Lessens gone old new
   gone_lessens gone less most = record {
     victim = g.victim;
     copies = g.copies;
@@ -155,7 +155,7 @@ module _ {old new : Physical} (g : NamesGone old new) where
     copies = g.copies;
   }
 
-  pub gone_back : gain_of old ≤ gain_of new → GivesBack old new
+  pub gone_back : gain_of old ≤ gain_of new → GivesBackBlocks old new
   gone_back more = record {
     next = g.next.0;
     left = g.next.1;
@@ -169,7 +169,7 @@ module _ {old new : Physical} (g : NamesGone old new) where
     same = gone_unspent;
   }
 
-  next_back : (p : ℕ) → IsNext new p → IsNext old p
+  next_back : (p : ℕ) → IsNextToProgram new p → IsNextToProgram old p
   next_back p next = let a = g.next.0 in let b = g.next.1 in (omega (arith, a, next.0), omega (arith, a, b, next.1))
 
   pub gone_taken : (p : ℕ) → TakenAsErased new p → TakenAsErased old p
@@ -186,7 +186,7 @@ module _ {old new : Physical} (g : NamesGone old new) where
     blank_copy = λ p next. is.blank_copy p (copy_same old new p g.copies next);
   }
 
-  pub gone_spare : ((p : ℕ) (h : Held) → held_at new p ≡ Some h → held_at old p ≡ Some h) → (image : Image) → HasSpare image old → HasSpare image new
+  pub gone_spare : ((p : ℕ) (h : Held) → held_at new p ≡ Some h → held_at old p ≡ Some h) → (image : Image) → CanSpareBlock image old → CanSpareBlock image new
   gone_spare was image is =
       let size = g.range.range_size in
       record {
@@ -214,7 +214,7 @@ module _ {old new : Physical} (g : NamesGone old new) where
 pub nothing_lessens : (gone : ℕ) (seg : Physical) → Lessens gone seg seg
 nothing_lessens gone seg = record { victim = refl; copies = (refl, refl); fewer_wait = omega arith; left = omega arith; left_most = omega arith; lands = λ lands. lands }
 
-pub nothing_back : (seg : Physical) → GivesBack seg seg
+pub nothing_back : (seg : Physical) → GivesBackBlocks seg seg
 nothing_back seg = record {
   next = refl;
   left = refl;

@@ -8,10 +8,10 @@ use Rattle.nl_blocks.specs.Table.{HasBlock, block_at}
 use Rattle.nl_field.specs.Page.{Image, erased, page_at}
 use Rattle.nl_nand.specs.Nand.{Cut}
 use Rattle.nl_nand.proofs.Crashes.{start}
-use Rattle.nl_pseg.specs.Cleaning.{Erases, KeepsBeside}
+use Rattle.nl_pseg.specs.Cleaning.{ErasesBlock, KeepsBeside}
 use Rattle.nl_pseg.specs.Copies.{ErasesIfDone, ErasesOn}
-use Rattle.nl_pseg.specs.Segment.{HasSpare, IsClean, IsNext, IsNextCopy, IsPhysicalOf, KeepsBlock, Physical, TakenAsErased, held_at, is_kept, is_soiled, soiled}
-use Rattle.nl_pseg.specs.Seen.{IsFormed, IsTied, seen}
+use Rattle.nl_pseg.specs.Segment.{CanSpareBlock, IsClean, IsNextToProgram, IsNextCopy, IsPhysicalOf, KeepsBlock, Physical, TakenAsErased, held_at, is_kept, is_soiled, soiled}
+use Rattle.nl_pseg.specs.Seen.{IsPhysicalFormed, IsTied, seen}
 use Rattle.nl_pseg_blocks.specs.Uses.{Use, is_kept_state}
 use Rattle.nl_pseg.specs.declared.cleaned.Erasure.{Erasure}
 use Rattle.nl_pseg.specs.declared.cleaned.Erasure.TheVariants as the
@@ -29,14 +29,14 @@ keeps_beside seg block g same cut p = ⊎_elim
     (λ w. inr (block_of p seg.size block (subst (λ k. block * k ≤ p) same w.0) (subst (λ k. p < block * k + k) same w.1), w.2))
     (cut.each p)
 
-module _ (s : Kept) (is : IsFormed s) (tied : IsTied s) (block : ℕ) (named : s.victim ≡ Some block) where
+module _ (s : Kept) (is : IsPhysicalFormed s) (tied : IsTied s) (block : ℕ) (named : s.victim ≡ Some block) where
   has : HasBlock s.blocks block
   has = (tied.phases.victim_in block named).0
 
   state : (block_at s.blocks block).state ≡ Victim
   state = (tied.phases.victim_in block named).1
 
-  pub apart_next : (p : ℕ) → IsNext (seen s) p → p / s.blocks.size ≡ block → ⊥
+  pub apart_next : (p : ℕ) → IsNextToProgram (seen s) p → p / s.blocks.size ≡ block → ⊥
   apart_next p next at =
       let fits = is.used_fits in
       let room : s.used < s.blocks.size = omega (arith, next.0, next.1, fits) in
@@ -50,7 +50,7 @@ module _ (s : Kept) (is : IsFormed s) (tied : IsTied s) (block : ℕ) (named : s
 
   module _ (dead : (p : ℕ) → p / s.blocks.size ≡ block → held_at (seen s) p ≡ None) where
     -- any image has a spare block then
-    pub dead_spare : (image : Image) → HasSpare image (seen s)
+    pub dead_spare : (image : Image) → CanSpareBlock image (seen s)
     dead_spare image = record { block = block; from = has.from; below = has.below; idle = apart_next; copied = λ p h held at. absurd (none-some h (sym (dead p at) ∙ held)) }
 
     -- an erase was cut
@@ -66,8 +66,8 @@ module _ (s : Kept) (is : IsFormed s) (tied : IsTied s) (block : ℕ) (named : s
         apart p (inr free) at = true≢false (sym free.0 ∙ (ap (is_kept (seen s)) at ∙ in_use))
 
     -- an erase was done
-    module _ {new : Physical} (e : Erases block (seen s) new) where
-      next_back : (p : ℕ) → IsNext new p → IsNext (seen s) p
+    module _ {new : Physical} (e : ErasesBlock block (seen s) new) where
+      next_back : (p : ℕ) → IsNextToProgram new p → IsNextToProgram (seen s) p
       next_back p n = let a = e.next.0 in let l = e.next.1 in (omega (arith, a, n.0), omega (arith, a, l, n.1))
 
       copy_back : (p : ℕ) → IsNextCopy new p → IsNextCopy (seen s) p
@@ -76,7 +76,7 @@ module _ (s : Kept) (is : IsFormed s) (tied : IsTied s) (block : ℕ) (named : s
       held_back : (p : ℕ) (h : Held) → held_at new p ≡ Some h → held_at (seen s) p ≡ Some h
       held_back p h held = ap (λ (l : List (Option Held)). get_or l p None) (sym e.tables.same_held) ∙ held
 
-      pub done_spare : (image : Image) → HasSpare image new
+      pub done_spare : (image : Image) → CanSpareBlock image new
       done_spare image = record {
         block = block;
         from = subst (λ n. n ≤ block) (sym e.tables.same_first) has.from;
@@ -103,7 +103,7 @@ module _ (s : Kept) (is : IsFormed s) (tied : IsTied s) (block : ℕ) (named : s
               (cases_eq (p / s.blocks.size) block)
 
 -- what an erase leaves of a segment
-module _ {block : ℕ} {old new : Physical} (e : Erases block old new) where
+module _ {block : ℕ} {old new : Physical} (e : ErasesBlock block old new) where
   pub erases_clean : IsClean old → IsClean new
   erases_clean clean b free = ⊎_elim
       (λ at. ap is_some (ap (soiled new) at ∙ e.clean))
@@ -111,11 +111,11 @@ module _ {block : ℕ} {old new : Physical} (e : Erases block old new) where
       (cases_eq b block)
 
 -- the block that was the victim is kept then
-pub erases_kept : {block : ℕ} {old : Physical} (s : Kept) → Erases block old (seen s) → KeepsBlock (seen s)
+pub erases_kept : {block : ℕ} {old : Physical} (s : Kept) → ErasesBlock block old (seen s) → KeepsBlock (seen s)
 erases_kept {block} s e = let has = kept_block s block e.kept in record { block = block; from = has.from; below = has.below; kept = inl e.kept }
 
 -- the erase was done
-pub done_erases : {block : ℕ} {old : Physical} (s : Kept) → Erases block old (seen s) → ErasesIfDone the.Done old (seen s)
+pub done_erases : {block : ℕ} {old : Physical} (s : Kept) → ErasesBlock block old (seen s) → ErasesIfDone the.Done old (seen s)
 done_erases {block} s e = record {
   kept = λ not. absurd (not refl);
   erased = λ done. (block, e);

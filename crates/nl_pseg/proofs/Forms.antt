@@ -5,17 +5,17 @@ use Rattle.std.proofs.lemmas.Bool.{cases_eq}
 use Rattle.nl_blocks.specs.declared.states.BlockState.TheVariants.{Active}
 use Rattle.std.proofs.lemmas.List.{get_or-set_same, get_or-set_other}
 use Rattle.nl_blocks.specs.Table.{Table, block_at, page_at}
-use Rattle.nl_pseg.specs.Segment.{IsNext, IsUnspent, SamePages, held_at, soiled, wear_with}
-use Rattle.nl_pseg.specs.Seen.{ArePlaces, IsFormed, seen, AreMarked, state_for}
+use Rattle.nl_pseg.specs.Segment.{IsNextToProgram, IsUnspent, SameBlocksAndPages, held_at, soiled, wear_with}
+use Rattle.nl_pseg.specs.Seen.{AreLivePlaces, IsPhysicalFormed, seen, AreMarked, state_for}
 use Rattle.nl_pseg.specs.Steps.{SameRange}
-use Rattle.nl_pseg_blocks.specs.Uses.{Use, use_in, SameNumbers, SameUse, Restated, IsMarked, SameMarks}
+use Rattle.nl_pseg_blocks.specs.Uses.{Use, use_in, SameNumbers, SameUse, SetsUse, MarksPage, SameMarks}
 use Rattle.nl_pseg.specs.declared.held.Held.{Held}
 use Rattle.nl_pseg.specs.Kept.{Kept}
 use Rattle.nl_pseg.proofs.Segments.{place_same}
 use Rattle.nl_pseg_blocks.proofs.Tables.{has_same, page_back}
 
 -- the table has the same numbers
-module _ (s : Kept) (is : IsFormed s) (t : Table) (n : SameNumbers s.blocks t) where
+module _ (s : Kept) (is : IsPhysicalFormed s) (t : Table) (n : SameNumbers s.blocks t) where
   bound : (t.first + length t.blocks) * t.size ≡ (s.blocks.first + length s.blocks.blocks) * s.blocks.size
   bound i = (n.same_first i + n.same_count i) * n.same_size i
 
@@ -28,10 +28,10 @@ module _ (s : Kept) (is : IsFormed s) (t : Table) (n : SameNumbers s.blocks t) w
   pub left_is : t.size - s.used ≡ s.blocks.size - s.used
   left_is i = n.same_size i - s.used
 
-  next_back : (p : ℕ) → IsNext (seen (record s { blocks = t })) p → IsNext (seen s) p
+  next_back : (p : ℕ) → IsNextToProgram (seen (record s { blocks = t })) p → IsNextToProgram (seen s) p
   next_back p next = let a = next_is in let b = left_is in (omega (arith, a, next.0), omega (arith, a, b, next.1))
 
-  pub formed_table : (s.used < s.blocks.size → (block_at t s.active).state ≡ Active) → ((p : ℕ) (h : Held) → held_at (seen s) p ≡ Some h → (use_in t (p / s.blocks.size)).is_kept ≡ false) → SameMarks s.blocks t → IsFormed (record s { blocks = t })
+  pub formed_table : (s.used < s.blocks.size → (block_at t s.active).state ≡ Active) → ((p : ℕ) (h : Held) → held_at (seen s) p ≡ Some h → (use_in t (p / s.blocks.size)).is_kept ≡ false) → SameMarks s.blocks t → IsPhysicalFormed (record s { blocks = t })
   formed_table active in_use marks = record {
     marked = record { each = λ p has. let back = page_back p n has in marks.same p back ∙ is.marked.each p back; rising = marks.rises is.marked.rising };
     some = subst (λ k. 0 < k) (sym n.same_size) is.some;
@@ -49,11 +49,11 @@ module _ (s : Kept) (is : IsFormed s) (t : Table) (n : SameNumbers s.blocks t) w
   }
 
 -- each block has the same use
-pub formed_same : (s : Kept) (t : Table) → IsFormed s → SameUse s.blocks t → SameMarks s.blocks t → (s.used < s.blocks.size → (block_at t s.active).state ≡ Active) → IsFormed (record s { blocks = t })
+pub formed_same : (s : Kept) (t : Table) → IsPhysicalFormed s → SameUse s.blocks t → SameMarks s.blocks t → (s.used < s.blocks.size → (block_at t s.active).state ≡ Active) → IsPhysicalFormed (record s { blocks = t })
 formed_same s t is same marks active = formed_table s is t same.numbers active
     (λ p h named. ap (λ (u : Use). u.is_kept) (same.uses (p / s.blocks.size)) ∙ (is.places.each p h named).in_use) marks
 
-pub use_places : (s : Kept) (t : Table) → IsFormed s → SameUse s.blocks t → ArePlaces (seen (record s { blocks = t }))
+pub use_places : (s : Kept) (t : Table) → IsPhysicalFormed s → SameUse s.blocks t → AreLivePlaces (seen (record s { blocks = t }))
 use_places s t is same = record {
   each = λ p h named.
       let was = is.places.each p h named in
@@ -61,8 +61,8 @@ use_places s t is same = record {
 }
 
 -- One block is Free now, or in use. Where it is Free, no page of it is live.
-pub formed_restated : (s : Kept) (t : Table) (block wear : ℕ) (free : Bool) → IsFormed s → Restated block free wear s.blocks t → (s.used < s.blocks.size → block ≡ s.active → ⊥)
-    → (free ≡ true → (p : ℕ) (h : Held) → held_at (seen s) p ≡ Some h → p / s.blocks.size ≡ block → ⊥) → IsFormed (record s { blocks = t })
+pub formed_restated : (s : Kept) (t : Table) (block wear : ℕ) (free : Bool) → IsPhysicalFormed s → SetsUse block free wear s.blocks t → (s.used < s.blocks.size → block ≡ s.active → ⊥)
+    → (free ≡ true → (p : ℕ) (h : Held) → held_at (seen s) p ≡ Some h → p / s.blocks.size ≡ block → ⊥) → IsPhysicalFormed (record s { blocks = t })
 formed_restated s t block wear free is r idle dead = formed_table s is t r.numbers
     (λ room. r.states s.active is.active_in (λ same. idle room (sym same)) ∙ is.taken room)
     (λ p h named. ⊎_elim
@@ -75,7 +75,7 @@ formed_restated s t block wear free is r idle dead = formed_table s is t r.numbe
     not_free false never = refl
 
 -- other blocks are told to be soiled
-pub formed_marks : (s : Kept) (block : ℕ) (told : Option ℕ) → IsFormed s → IsFormed (record s { soiled = with_item s.soiled block told })
+pub formed_marks : (s : Kept) (block : ℕ) (told : Option ℕ) → IsPhysicalFormed s → IsPhysicalFormed (record s { soiled = with_item s.soiled block told })
 formed_marks s block told is = record {
   marked = is.marked;
   some = is.some;
@@ -89,7 +89,7 @@ formed_marks s block told is = record {
 }
 
 -- a page was marked as it is now
-module _ (s : Kept) (is : IsFormed s) (t : Table) (same : SameUse s.blocks t) (page : ℕ) (x : Option Held) (marked : IsMarked page (state_for x) s.blocks t) (within : page < length s.held.items) where
+module _ (s : Kept) (is : IsPhysicalFormed s) (t : Table) (same : SameUse s.blocks t) (page : ℕ) (x : Option Held) (marked : MarksPage page (state_for x) s.blocks t) (within : page < length s.held.items) where
   pub marked_are : AreMarked t (set s.held.items page x)
   marked_are = record {
     rising = marked.rising;
@@ -99,7 +99,7 @@ module _ (s : Kept) (is : IsFormed s) (t : Table) (same : SameUse s.blocks t) (p
         (cases_eq p page);
   }
 
-  pub formed_page : (s.used < s.blocks.size → (block_at t s.active).state ≡ Active) → ArePlaces (record (seen (record s { blocks = t })) { held = set s.held.items page x }) → IsFormed (record s { held = with_item s.held page x; blocks = t })
+  pub formed_page : (s.used < s.blocks.size → (block_at t s.active).state ≡ Active) → AreLivePlaces (record (seen (record s { blocks = t })) { held = set s.held.items page x }) → IsPhysicalFormed (record s { held = with_item s.held page x; blocks = t })
   formed_page active places =
       let n = same.numbers in
       record {
@@ -116,7 +116,7 @@ module _ (s : Kept) (is : IsFormed s) (t : Table) (same : SameUse s.blocks t) (p
 
 -- the segment keeps its pages, and no page is given out
 module _ (s : Kept) (t : Table) (same : SameUse s.blocks t) where
-  pub same_pages : SamePages (seen s) (seen (record s { blocks = t }))
+  pub same_pages : SameBlocksAndPages (seen s) (seen (record s { blocks = t }))
   same_pages = record {
     same_first = same.numbers.same_first;
     same_blocks = λ i. same.numbers.same_first i + same.numbers.same_count i;

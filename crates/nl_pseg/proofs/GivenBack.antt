@@ -7,7 +7,7 @@ use Rattle.nl_blocks.specs.Table.{BlockRow, HasBlock, is_free_state, row_at}
 use Rattle.nl_blocks.specs.Table.{is_free as is_free_row}
 use Rattle.nl_pseg.specs.Segment.{Physical, erasures, is_free, soiled}
 use Rattle.nl_pseg_blocks.specs.Uses.{Use}
-use Rattle.nl_pseg.specs.Seen.{IsFormed, IsTied, seen}
+use Rattle.nl_pseg.specs.Seen.{IsPhysicalFormed, IsTied, seen}
 use Rattle.nl_pseg.specs.Opened.{GivesAllBack}
 use Rattle.nl_pseg.specs.Steps.{AllFree, AreGivenBack, IsGivenBack}
 use Rattle.nl_pseg.specs.Kept.{Kept}
@@ -104,7 +104,7 @@ all_counted (row ∷ rows) counted (suc i) less =
     let few = count_by-le-length is_free_row rows in
     all_counted rows (omega (arith, counted, e, most, few)) i (omega (arith, less))
 
-module _ (s : Kept) (is : IsFormed s) where
+module _ (s : Kept) (is : IsPhysicalFormed s) where
   pub free_counted : AllFree (seen s) → (seen s).first + (seen s).free ≡ (seen s).blocks
   free_counted all =
       let count = count_all s.blocks.blocks
@@ -137,7 +137,7 @@ copies_none s tied all = elim (cases_lt s.filled s.blocks.size) [
   | inr full ↦ omega (arith, full)
 ]
 
-pub gives_all_back : (s n : Kept) → IsFormed s → IsFormed n → IsTied n → AreGivenBack (seen s).blocks (seen s) (seen n) → GivesAllBack (seen s) (seen n)
+pub gives_all_back : (s n : Kept) → IsPhysicalFormed s → IsPhysicalFormed n → IsTied n → AreGivenBack (seen s).blocks (seen s) (seen n) → GivesAllBack (seen s) (seen n)
 gives_all_back s n was is tied g =
     let all = all_given g in
     record {

@@ -11,7 +11,7 @@ use Rattle.nl_remap.specs.Table.{IsOld, told}
 use Rattle.nl_remap.specs.declared.links.Link.{Link}
 use Rattle.nl_pseg_names.specs.OldNames.{NameTable}
 use Rattle.nl_pseg.specs.Seen.{seen}
-use Rattle.nl_pseg.specs.Steps.{NamesGone}
+use Rattle.nl_pseg.specs.Steps.{NamesGoneFromSegment}
 use Rattle.nl_pseg_blocks.specs.Uses.{Use, no_use, is_kept_state, use_in, use_of, SameNumbers}
 use Rattle.nl_pseg.specs.Kept.{Kept}
 use Rattle.nl_pseg_blocks.proofs.Tables.{free_kept, use_from}
@@ -94,7 +94,7 @@ module _ (s : Kept) (t : Table) (names : NameTable) (n : SameNumbers s.blocks t)
   not_free : (b : ℕ) → (use_in s.blocks b).is_kept ≡ false → (use_in t b).is_free ≡ false
   not_free b used = ⊎_elim (λ free. absurd (true≢false (sym (free_kept t b free) ∙ (keeps b ∙ used)))) (λ is. is) (cases_Bool (use_in t b).is_free)
 
-  pub gone_names : NamesGone (seen s) (seen (record s { blocks = t; names = names }))
+  pub gone_names : NamesGoneFromSegment (seen s) (seen (record s { blocks = t; names = names }))
   gone_names = record {
     range = record { range_first = n.same_first; range_blocks = λ i. n.same_first i + n.same_count i; range_size = n.same_size };
     next = (λ i. s.active * n.same_size i + s.used, λ i. n.same_size i - s.used);

@@ -6,14 +6,14 @@ use Rattle.std.proofs.lemmas.List.Sums.{count_by-le-length, get_or-le-sum_by, su
 use Rattle.std.specs.List.{range_with_len}
 use Rattle.nl_blocks.specs.declared.states.BlockState.{BlockState}
 use Rattle.nl_blocks.specs.declared.states.BlockState.TheVariants as the
-use Rattle.nl_blocks.specs.Table.{BlockRow, HasBlock, IsTable, block_at, dead_count, is_free, is_retired_state, no_row, row_at}
+use Rattle.nl_blocks.specs.Table.{BlockRow, HasBlock, IsBlockTable, block_at, dead_count, is_free, is_retired_state, no_row, row_at}
 use Rattle.nl_remap.specs.Links.{HasLink, link_at, no_link}
 use Rattle.nl_remap.specs.Table.{pair}
 use Rattle.nl_remap.specs.declared.links.Link.{Link}
 use Rattle.nl_pseg.specs.Segment.{InVictim, KeepsBlock, held_at, is_kept}
-use Rattle.nl_pseg.specs.Seen.{IsFormed, IsTied, seen}
+use Rattle.nl_pseg.specs.Seen.{IsPhysicalFormed, IsTied, seen}
 use Rattle.nl_pseg_blocks.specs.Uses.{Use, no_use, use_of}
-use Rattle.nl_pseg.specs.Space.{HasFewPairs, HasPages, IsWhole, dead_pages, gain_of, left_of, live_in, victims, waiting}
+use Rattle.nl_pseg.specs.Space.{HasFewPairs, PagesAreInSegment, IsWhole, dead_pages, gain_of, left_in_victim, live_in, victims, waiting}
 use Rattle.nl_pseg.specs.declared.held.Held.{Held}
 use Rattle.nl_pseg.specs.Kept.{Kept}
 use Rattle.nl_pseg.proofs.Dropped.{retired_is}
@@ -55,7 +55,7 @@ by_place f (u ∷ us) first each =
     let rest = by_place f us (first + 1) (λ i within. ap f (omega arith) ∙ each (suc i) (omega (arith, within))) in
     omega (arith, a, b, here, rest)
 
-module _ (s : Kept) (is : IsFormed s) where
+module _ (s : Kept) (is : IsPhysicalFormed s) where
   -- some block is kept, where one is Free or waits
   pub kept_some : 1 ≤ (seen s).free + waiting (seen s) → (block : ℕ) × HasBlock s.blocks block × ((get_or (map use_of s.blocks.blocks) (block - s.blocks.first) no_use).is_kept ≡ true)
   kept_some some =
@@ -65,8 +65,8 @@ module _ (s : Kept) (is : IsFormed s) where
       let e : s.blocks.first + at.0 - s.blocks.first ≡ at.0 = omega arith in
       (s.blocks.first + at.0, record { from = omega arith; below = omega (arith, within) }, ap (λ k. (get_or (map use_of s.blocks.blocks) k no_use).is_kept) e ∙ at.2)
 
-module _ (s : Kept) (is : IsFormed s) (tied : IsTied s) where
-  has_pages : HasPages (seen s)
+module _ (s : Kept) (is : IsPhysicalFormed s) (tied : IsTied s) where
+  has_pages : PagesAreInSegment (seen s)
   has_pages = record {
     live_within = λ p h held. (is.places.each p h held).within;
     erased_within = taken_segment s is;
@@ -90,17 +90,17 @@ module _ (s : Kept) (is : IsFormed s) (tied : IsTied s) where
     no_name_free = λ name old free. true≢false (sym free ∙ (tied.named.standing name (old_is s name old)).in_use);
   }
 
-  module _ (table : IsTable s.blocks) (few : HasFewPairs (seen s)) where
+  module _ (table : IsBlockTable s.blocks) (few : HasFewPairs (seen s)) where
     at_row : (i : ℕ) → i < length s.blocks.blocks → HasBlock s.blocks (s.blocks.first + i) × (block_at s.blocks (s.blocks.first + i) ≡ row_at s.blocks.blocks i)
     at_row i less = (record { from = omega arith; below = omega (arith, less) }, ap (row_at s.blocks.blocks) (omega arith))
 
-    victim_is : (x : Option ℕ) → s.victim ≡ x → left_of (record (seen s) { victim = x }) + gain_of (record (seen s) { victim = x }) ≡ victims (record (seen s) { victim = x }) * s.blocks.size
+    victim_is : (x : Option ℕ) → s.victim ≡ x → left_in_victim (record (seen s) { victim = x }) + gain_of (record (seen s) { victim = x }) ≡ victims (record (seen s) { victim = x }) * s.blocks.size
     victim_is None e = omega arith
     victim_is (Some b) e =
         let sum = dead_seen s is table b (tied.phases.victim_in b e).0 in
         omega (arith, sum)
 
-    none_left : left_of (seen s) ≡ 0 → (page : ℕ) (h : Held) → held_at (seen s) page ≡ Some h → InVictim (seen s) page → ⊥
+    none_left : left_in_victim (seen s) ≡ 0 → (page : ℕ) (h : Held) → held_at (seen s) page ≡ Some h → InVictim (seen s) page → ⊥
     none_left none page h held at =
         let has = (tied.phases.victim_in (page / s.blocks.size) at).0 in
         let few = some_live s is table (page / s.blocks.size) has page h refl held in

@@ -8,16 +8,16 @@ use Rattle.nl_field.specs.declared.answers.Named.{Named}
 use Rattle.nl_field.specs.declared.pointer.Tag.{Tag}
 use Rattle.nl_nand.specs.declared.answers.WriteAnswer.{WriteAnswer}
 use Rattle.nl_nand.specs.declared.answers.WriteAnswer.TheVariants as write
-use Rattle.nl_nand.specs.Nand.{CrashLeaves, Cut, Filled, Leaves, ticked}
+use Rattle.nl_nand.specs.Nand.{CrashLeaves, Cut, Filled, OperationLeaves, ticked}
 use Rattle.nl_nand.proofs.Crashes.{leaves_cut, leaves_done, operation_turns}
 use Rattle.nl_nand.specs.ImageLaws.{filled_cut}
-use Rattle.nl_pseg.specs.Effects.{Crashes, Keeps, Places, Takes}
-use Rattle.nl_pseg.specs.Answers.{IsPlaced, Names}
+use Rattle.nl_pseg.specs.Effects.{Crashes, PreservesSegment, PlacesOnImage, TakesImagePage}
+use Rattle.nl_pseg.specs.Answers.{IsPlaced, NamesPage}
 use Rattle.nl_pseg_pages.specs.Pages.{IsUnreadable, main_of, page_with, shown_by}
-use Rattle.nl_pseg.specs.Segment.{Physical, IsDead, IsNextCopy, IsOldName, IsPhysicalOf, IsUnspent, SamePages, TakenAsErased, held_at, is_kept, is_soiled, soiled, wear_of}
+use Rattle.nl_pseg.specs.Segment.{Physical, IsDead, IsNextCopy, IsOldName, IsPhysicalOf, IsUnspent, SameBlocksAndPages, TakenAsErased, held_at, is_kept, is_soiled, soiled, wear_of}
 use Rattle.nl_pseg_blocks.specs.Uses.{Use}
-use Rattle.nl_pseg.specs.Seen.{ArePlaces}
-use Rattle.nl_pseg.specs.Steps.{IsAlone, IsOpened, IsUsed}
+use Rattle.nl_pseg.specs.Seen.{AreLivePlaces}
+use Rattle.nl_pseg.specs.Steps.{IsAlone, OpensFreeBlock, UsesNextPage}
 use Rattle.nl_pseg.specs.declared.held.Held.{Held}
 use Rattle.nl_pseg.proofs.Numbers.{block_of, block_below, block_from}
 use Rattle.nl_pseg.proofs.Segments.{copy_same, dead_kept, kept_within, opened_next, set_held, unspent_taken, used_taken}
@@ -27,7 +27,7 @@ pub program_others : {page : ℕ} {value : Page} {old c : Image} → Cut page (p
 program_others cut p ne = ⊎_elim (λ same. same) (λ w. absurd (ne (omega (arith, w.0, w.1)))) (cut.each p)
 
 module _ (seg : Physical) (page : ℕ) (dead : IsDead seg page) {value : Page} {old c : Image} where
-  keeps_page : Cut page (page + 1) value old c → (page_at c page ≡ page_at old page) ⊎ (IsDead seg page × IsUnreadable (page_at c page)) → Keeps seg old c
+  keeps_page : Cut page (page + 1) value old c → (page_at c page ≡ page_at old page) ⊎ (IsDead seg page × IsUnreadable (page_at c page)) → PreservesSegment seg old c
   keeps_page cut here = record {
     each = λ p. ⊎_elim
         (λ is. subst (λ n. (page_at c n ≡ page_at old n) ⊎ (IsDead seg n × IsUnreadable (page_at c n))) (sym is) here)
@@ -35,7 +35,7 @@ module _ (seg : Physical) (page : ℕ) (dead : IsDead seg page) {value : Page} {
         (cases_eq p page);
   }
 
-  pub put_either : Cut page (page + 1) value old c → Keeps seg old c ⊎ Takes seg page value old c
+  pub put_either : Cut page (page + 1) value old c → PreservesSegment seg old c ⊎ TakesImagePage seg page value old c
   put_either cut = ⊎_elim
       (λ same. inl (keeps_page cut (inl same)))
       (λ w. ⊎_elim
@@ -44,7 +44,7 @@ module _ (seg : Physical) (page : ℕ) (dead : IsDead seg page) {value : Page} {
       w.2)
       (cut.each page)
 
-  pub put_takes : Filled page (page + 1) value old c → Takes seg page value old c
+  pub put_takes : Filled page (page + 1) value old c → TakesImagePage seg page value old c
   put_takes filled = record {
     dead = dead;
     has = filled.inside page (omega arith) (omega arith);
@@ -56,8 +56,8 @@ pub put_alone : {page : ℕ} {value : Page} {old c : Image} → Filled page (pag
 put_alone {page} filled = record { has = filled.inside page (omega arith) (omega arith); others = program_others (filled_cut filled) }
 
 -- an erase of a Free block
-pub erase_keeps : (seg : Physical) (block g : ℕ) {old c : Image} → g ≡ seg.size → seg.blocks ≡ seg.first + length seg.uses → ArePlaces seg → is_kept seg block ≡ true → ((p : ℕ) → p / seg.size ≡ block → IsOldName seg p → ⊥) → (seg.victim ≡ Some block → ⊥)
-    → Cut (block * g) (block * g + g) erased old c → Keeps seg old c
+pub erase_keeps : (seg : Physical) (block g : ℕ) {old c : Image} → g ≡ seg.size → seg.blocks ≡ seg.first + length seg.uses → AreLivePlaces seg → is_kept seg block ≡ true → ((p : ℕ) → p / seg.size ≡ block → IsOldName seg p → ⊥) → (seg.victim ≡ Some block → ⊥)
+    → Cut (block * g) (block * g + g) erased old c → PreservesSegment seg old c
 erase_keeps seg block g {old} {c} is count are free own apart cut = record {
   each = λ p. ⊎_elim (λ same. inl same) (λ w. inr (dead p w.0 w.1, w.2)) (cut.each p);
 }
@@ -83,19 +83,19 @@ erase_others block g size is cut p ne = ⊎_elim
     (λ w. absurd (ne (block_of p size block (subst (λ k. block * k ≤ p) is w.0) (subst (λ k. p < block * k + k) is w.1))))
     (cut.each p)
 
-pub keeps_nothing : (seg : Physical) (image : Image) → Keeps seg image image
+pub keeps_nothing : (seg : Physical) (image : Image) → PreservesSegment seg image image
 keeps_nothing seg image = record { each = λ p. inl refl }
 
 -- an image keeps the segment, and another one keeps what it then is
-module _ {seg mid : Physical} {a b : Image} (dead : (p : ℕ) → IsDead mid p → IsDead seg p) (first : Keeps seg a b) where
+module _ {seg mid : Physical} {a b : Image} (dead : (p : ℕ) → IsDead mid p → IsDead seg p) (first : PreservesSegment seg a b) where
   after : (c : Image) (p : ℕ) → (page_at c p ≡ page_at b p) ⊎ (IsDead mid p × IsUnreadable (page_at c p)) → (page_at c p ≡ page_at a p) ⊎ (IsDead seg p × IsUnreadable (page_at c p))
   after c p (inl same) = ⊎_elim (λ still. inl (same ∙ still)) (λ gone. inr (gone.0, subst IsUnreadable (sym same) gone.1)) (first.each p)
   after c p (inr gone) = inr (dead p gone.0, gone.1)
 
-  pub keeps_then : {c : Image} → Keeps mid b c → Keeps seg a c
+  pub keeps_then : {c : Image} → PreservesSegment mid b c → PreservesSegment seg a c
   keeps_then {c} second = record { each = λ p. after c p (second.each p) }
 
-  pub takes_then : {page : ℕ} {value : Page} {c : Image} → Takes mid page value b c → Takes seg page value a c
+  pub takes_then : {page : ℕ} {value : Page} {c : Image} → TakesImagePage mid page value b c → TakesImagePage seg page value a c
   takes_then {page} {value} {c} second = record { dead = dead page second.dead; has = second.has; others = λ p ne. after c p (second.others p ne) }
 
 -- what a live page shows stays where the page does
@@ -103,7 +103,7 @@ pub shows_same : (h : Held) {x y : Page} → y ≡ x → shown_by x ≡ Some (h.
 shows_same h {x} {y} same shows = subst (λ (q : Page). shown_by q ≡ Some (h.tag, h.stamp, main_of q)) (sym same) shows
 
 -- the next page was used
-pub after_put : {x : Option Held} {seg new : Physical} {value : Page} {old c : Image} → IsUsed x seg new → seg.next < length seg.held → is_kept seg (seg.next / seg.size) ≡ false → (IsNextCopy seg seg.next → ⊥) → IsPhysicalOf old seg
+pub after_put : {x : Option Held} {seg new : Physical} {value : Page} {old c : Image} → UsesNextPage x seg new → seg.next < length seg.held → is_kept seg (seg.next / seg.size) ≡ false → (IsNextCopy seg seg.next → ⊥) → IsPhysicalOf old seg
     → Cut seg.next (seg.next + 1) value old c → ((h : Held) → x ≡ Some h → shown_by (page_at c seg.next) ≡ Some (h.tag, h.stamp, main_of (page_at c seg.next))) → IsPhysicalOf c new
 after_put {x} {seg} {new} {value} {old} {c} u within in_use apart is cut shows = record {
   holds = λ p h named. holds p h (set_held seg.held seg.next x within p h (ap (λ (l : List (Option Held)). get_or l p None) (sym u.held) ∙ named));
@@ -116,7 +116,7 @@ after_put {x} {seg} {new} {value} {old} {c} u within in_use apart is cut shows =
     holds p h (inr there) = shows_same h (program_others cut p there.0) (is.holds p h there.1)
 
 -- a Free block is written to
-pub opened_segment : {block : ℕ} {seg new : Physical} {old c : Image} → IsOpened block seg new → 0 < seg.size → ArePlaces seg → ((p : ℕ) → IsNextCopy seg p → p / seg.size ≡ block → ⊥) → IsPhysicalOf old seg → ((p : ℕ) → (p / seg.size ≡ block → ⊥) → page_at c p ≡ page_at old p)
+pub opened_segment : {block : ℕ} {seg new : Physical} {old c : Image} → OpensFreeBlock block seg new → 0 < seg.size → AreLivePlaces seg → ((p : ℕ) → IsNextCopy seg p → p / seg.size ≡ block → ⊥) → IsPhysicalOf old seg → ((p : ℕ) → (p / seg.size ≡ block → ⊥) → page_at c p ≡ page_at old p)
     → ((p : ℕ) → p / seg.size ≡ block → page_at c p ≡ erased) → IsPhysicalOf c new
 opened_segment {block} {seg} {new} {old} {c} o some are apart is others here = record {
   holds = λ p h named.
@@ -139,7 +139,7 @@ opened_segment {block} {seg} {new} {old} {c} o some are apart is others here = r
         soiled_other b ne = ap (λ (l : List (Option ℕ)). get_or l b None) o.soiled ∙ get_or-set_other seg.soiled block b None None ne
 
 -- a live page died
-pub ended_segment : {seg new : Physical} {image : Image} (page : ℕ) → page < length seg.held → SamePages seg new → IsUnspent seg new → new.held ≡ set seg.held page None → IsPhysicalOf image seg → IsPhysicalOf image new
+pub ended_segment : {seg new : Physical} {image : Image} (page : ℕ) → page < length seg.held → SameBlocksAndPages seg new → IsUnspent seg new → new.held ≡ set seg.held page None → IsPhysicalOf image seg → IsPhysicalOf image new
 ended_segment {seg} {new} {image} page within same space held is = record {
   holds = λ p h named. ⊎_elim
       (λ here. absurd (none-some h here.1))
@@ -150,7 +150,7 @@ ended_segment {seg} {new} {image} page within same space held is = record {
 }
 
 -- an erase of a block that was told to be soiled failed
-pub failed_segment : {seg new : Physical} {old c : Image} (block : ℕ) → SamePages seg new → new.held ≡ seg.held → IsUnspent seg new → ArePlaces seg → ((p : ℕ) → IsNextCopy seg p → p / seg.size ≡ block → ⊥) → IsPhysicalOf old seg → is_kept seg block ≡ true → is_soiled seg block ≡ true
+pub failed_segment : {seg new : Physical} {old c : Image} (block : ℕ) → SameBlocksAndPages seg new → new.held ≡ seg.held → IsUnspent seg new → AreLivePlaces seg → ((p : ℕ) → IsNextCopy seg p → p / seg.size ≡ block → ⊥) → IsPhysicalOf old seg → is_kept seg block ≡ true → is_soiled seg block ≡ true
     → (seg.left ≡ 0) → ((p : ℕ) → (p / seg.size ≡ block → ⊥) → page_at c p ≡ page_at old p) → IsPhysicalOf c new
 failed_segment {seg} {new} {old} {c} block same held space are away is free dirty full others = record {
   holds = λ p h named.
@@ -176,16 +176,16 @@ shows_placed tag stamp h bytes {page} has shows some =
 
 -- one program, which was to place a page
 pub put_crashes : {M : Type 0} {clock : M → ℕ} {contents : M → Image} {left : M → ℕ → Image → Type 0} {old new : M} (seg : Physical) (page : ℕ) (tag : Tag) (stamp was : ℕ) (main from : List ℕ) (answer : WriteAnswer) (named : Named)
-    → IsDead seg page → Names page stamp named → (IsPlaced named → answer ≡ write.Done) → main ≡ from → was ≡ wear_of seg (page / seg.size)
+    → IsDead seg page → NamesPage page stamp named → (IsPlaced named → answer ≡ write.Done) → main ≡ from → was ≡ wear_of seg (page / seg.size)
     → shown_by (written (page_with main tag stamp was)) ≡ Some (tag, stamp, main)
     → CrashLeaves clock contents left page (page + 1) (written (page_with main tag stamp was)) old new
-    → Leaves page (page + 1) (written (page_with main tag stamp was)) (contents old) answer (contents new)
+    → OperationLeaves page (page + 1) (written (page_with main tag stamp was)) (contents old) answer (contents new)
     → clock new ≡ ticked (clock old) answer → Crashes clock contents left seg tag stamp from old new named
 put_crashes {M} {clock} {contents} {left} {old} {new} seg page tag stamp was main from answer named dead names is_done main_is wear_is shows crash effect ticks = record {
   page = page;
   named = names;
   either = ⊎_elim (λ k. inl k) (λ k. inr (places (contents new) k)) (put_either seg page dead (leaves_cut page (page + 1) value (contents old) answer (contents new) effect));
-  crash = operation_turns {contents = contents} (IsPlaced named) answer (λ c. Keeps seg (contents old) c) (λ c. Places seg page tag stamp from (contents old) c) is_done crash effect ticks
+  crash = operation_turns {contents = contents} (IsPlaced named) answer (λ c. PreservesSegment seg (contents old) c) (λ c. PlacesOnImage seg page tag stamp from (contents old) c) is_done crash effect ticks
       (λ c cut. ⊎_elim (λ k. inl k) (λ k. inr (places c k)) (put_either seg page dead cut))
       (λ done. places (contents new) (put_takes seg page dead (leaves_done page (page + 1) value (contents old) answer (contents new) done effect)));
 }
@@ -196,8 +196,8 @@ put_crashes {M} {clock} {contents} {left} {old} {new} seg page tag stamp was mai
     same : value ≡ written (page_with from tag stamp (wear_of seg (page / seg.size)))
     same i = written (page_with (main_is i) tag stamp (wear_is i))
 
-    places : (c : Image) → Takes seg page value (contents old) c → Places seg page tag stamp from (contents old) c
+    places : (c : Image) → TakesImagePage seg page value (contents old) c → PlacesOnImage seg page tag stamp from (contents old) c
     places c k = record {
-      takes = subst (λ v. Takes seg page v (contents old) c) same k;
+      takes = subst (λ v. TakesImagePage seg page v (contents old) c) same k;
       shows = sym (ap shown_by same) ∙ (shows ∙ ap (λ (m : List ℕ). Some (tag, stamp, m)) main_is);
     }

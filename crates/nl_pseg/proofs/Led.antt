@@ -11,7 +11,7 @@ use Rattle.nl_blocks.specs.declared.states.BlockState.TheVariants.{Victim}
 use Rattle.nl_blocks.specs.declared.states.Page.{Page}
 use Rattle.nl_blocks.specs.declared.states.PageState.{PageState}
 use Rattle.nl_blocks.specs.declared.states.PageState.TheVariants.{Dead, Live}
-use Rattle.nl_blocks.specs.Table.{BlockRow, Table, HasBlock, IsTable, block_at, dead_count, is_dead, is_dead_state, is_free_state, new_page, with_mark, with_page}
+use Rattle.nl_blocks.specs.Table.{BlockRow, Table, HasBlock, IsBlockTable, block_at, dead_count, is_dead, is_dead_state, is_free_state, new_page, with_mark, with_page}
 use Rattle.nl_blocks.proofs.TableLaws.{block_at-with_block_same}
 use Rattle.nl_blocks.proofs.TableProofs.{row_size}
 use Rattle.nl_remap.specs.declared.links.Link.{Link}
@@ -20,11 +20,11 @@ use Rattle.nl_remap.specs.Table.{IsOld, IsRemap, led, led_on, pair, place_of}
 use Rattle.nl_remap.proofs.LinksProofs.{HasLink-insert_back, HasLink-insert_new}
 use Rattle.nl_remap.proofs.TableProofs.{IsOld-insert_back}
 use Rattle.nl_pseg_names.specs.OldNames.{NameTable, names_among}
-use Rattle.nl_pseg.specs.Segment.{IsNext, IsNextCopy, IsOldName, held_at, soiled, wear_with}
-use Rattle.nl_pseg.specs.Seen.{IsFormed, IsNamed, IsStanding, IsTied, seen, state_for}
+use Rattle.nl_pseg.specs.Segment.{IsNextToProgram, IsNextCopy, IsOldName, held_at, soiled, wear_with}
+use Rattle.nl_pseg.specs.Seen.{IsPhysicalFormed, IsNamed, IsOldNameInUse, IsTied, seen, state_for}
 use Rattle.nl_pseg.specs.Space.{gain_of}
 use Rattle.nl_pseg.specs.Steps.{IsLed}
-use Rattle.nl_pseg_blocks.specs.Uses.{Use, use_in, IsMarked, SameUse}
+use Rattle.nl_pseg_blocks.specs.Uses.{Use, use_in, MarksPage, SameUse}
 use Rattle.nl_pseg.specs.declared.held.Held.{Held}
 use Rattle.nl_pseg.specs.Kept.{Kept}
 use Rattle.nl_pseg.proofs.Begun.{told_length}
@@ -48,7 +48,7 @@ old_led xs old new name is =
     let less : is.0 < length xs = subst (λ k. is.0 < k) (length-map xs (led_on old new)) is.1 in
     (is.0, less, sym (ap (λ (l : Link). l.from) (get_or-map (led_on old new) xs is.0 no_link no_link less)) ∙ is.2)
 
-module _ (s : Kept) (is : IsFormed s) (tied : IsTied s) (before after : ℕ) (victim : s.victim ≡ Some (before / s.blocks.size)) (live : IsSome (held_at (seen s) before)) (there : IsSome (held_at (seen s) after)) (apart : before ≡ after → ⊥) where
+module _ (s : Kept) (is : IsPhysicalFormed s) (tied : IsTied s) (before after : ℕ) (victim : s.victim ≡ Some (before / s.blocks.size)) (live : IsSome (held_at (seen s) before)) (there : IsSome (held_at (seen s) after)) (apart : before ≡ after → ⊥) where
   abbrev pairs : List Link
   pairs = map (led_on before after) s.names.pairs
 
@@ -89,7 +89,7 @@ module _ (s : Kept) (is : IsFormed s) (tied : IsTied s) (before after : ℕ) (vi
     size : t.size ≡ s.blocks.size
     size = same.numbers.same_size
 
-    nexts : (p : ℕ) → IsNext (seen new) p → IsNext (seen s) p
+    nexts : (p : ℕ) → IsNextToProgram (seen new) p → IsNextToProgram (seen s) p
     nexts p n =
         let a : s.active * t.size ≡ s.active * s.blocks.size = ap (λ k. s.active * k) size in
         let e = size in
@@ -111,20 +111,20 @@ module _ (s : Kept) (is : IsFormed s) (tied : IsTied s) (before after : ℕ) (vi
     stays : (p : ℕ) (x : Held) → (p ≡ before → ⊥) → held_at (seen s) p ≡ Some x → held_at (seen new) p ≡ Some x
     stays p x ne held = get_or-set_other s.held.items before p None None ne ∙ held
 
-    standing : (name : ℕ) → IsOld names.pairs name → IsStanding (seen new) name
+    standing : (name : ℕ) → IsOld names.pairs name → IsOldNameInUse (seen new) name
     standing name old = ⊎_elim here stays_old (old_back name (subst (λ l. IsOld l name) pairs_now old))
       where
         used : (p : ℕ) → (use_in s.blocks (p / s.blocks.size)).is_free ≡ false → (use_in t (p / t.size)).is_free ≡ false
         used p in_use = ap (λ (u : Use). u.is_free) (same.uses (p / t.size)) ∙ (ap (λ n. (use_in s.blocks (p / n)).is_free) size ∙ in_use)
 
-        here : name ≡ before → IsStanding (seen new) name
-        here e = subst (IsStanding (seen new)) (sym e) (record {
+        here : name ≡ before → IsOldNameInUse (seen new) name
+        here e = subst (IsOldNameInUse (seen new)) (sym e) (record {
           in_use = used before (ap (λ (u : Use). u.is_free) (use_here s.blocks (before / s.blocks.size) has) ∙ ap (λ (b : BlockState). is_free_state b) state);
           behind = λ n. (is.places.each before h.0 h.1).behind (nexts before n);
           copy_behind = λ n. tied.behind before h.0 h.1 (copies before n);
         })
 
-        stays_old : IsOld s.names.pairs name → IsStanding (seen new) name
+        stays_old : IsOld s.names.pairs name → IsOldNameInUse (seen new) name
         stays_old old_was =
             let w = tied.named.standing name old_was in
             record { in_use = used name w.in_use; behind = λ n. w.behind (nexts name n); copy_behind = λ n. w.copy_behind (copies name n) }
@@ -184,13 +184,13 @@ module _ (s : Kept) (is : IsFormed s) (tied : IsTied s) (before after : ℕ) (vi
       behind = λ p x held copy. tied.behind p x (was p x held).1 (copies p copy);
     }
 
-    pub led_formed : IsMarked before Dead s.blocks t → IsFormed (record s { held = with_item s.held before None; blocks = t; names = names })
+    pub led_formed : MarksPage before Dead s.blocks t → IsPhysicalFormed (record s { held = with_item s.held before None; blocks = t; names = names })
     led_formed marked =
         let x = formed_page s is t same before None marked within (λ lt. states s.active ∙ is.taken lt)
         (ended_places (seen (record s { blocks = t })) before within (use_places s t is same)) in
         record { some = x.some; numbers = x.numbers; pages = x.pages; marks = x.marks; active_in = x.active_in; used_fits = x.used_fits; taken = x.taken; places = record { each = λ p y held. let w = x.places.each p y held in record { within = w.within; in_use = w.in_use; behind = w.behind; spelled = w.spelled } }; marked = x.marked }
 
-    pub led_now : IsTable s.blocks → t ≡ with_page s.blocks before Dead → ((name : ℕ) → led names.pairs name ≡ (if led s.names.pairs name == before then after else led s.names.pairs name)) → IsLed before after (seen s) (seen (record s { held = with_item s.held before None; blocks = t; names = names }))
+    pub led_now : IsBlockTable s.blocks → t ≡ with_page s.blocks before Dead → ((name : ℕ) → led names.pairs name ≡ (if led s.names.pairs name == before then after else led s.names.pairs name)) → IsLed before after (seen s) (seen (record s { held = with_item s.held before None; blocks = t; names = names }))
     led_now table marked ways =
         let n = same.numbers in
         let w = tied.named in

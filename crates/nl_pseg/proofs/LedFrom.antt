@@ -15,9 +15,9 @@ use Rattle.nl_remap.proofs.LinksProofs.{HasLink-insert_back, same_link}
 use Rattle.nl_remap.proofs.TableProofs.{IsOld-insert_back}
 use Rattle.nl_remap.proofs.Ways.{led_has, led_not}
 use Rattle.nl_pseg_names.specs.OldNames.{NameTable, names_among}
-use Rattle.nl_pseg.specs.Segment.{IsNext, IsNextCopy, held_at}
-use Rattle.nl_pseg.specs.Seen.{HasPhases, IsFormed, IsNamed, IsStanding, IsTied, seen}
-use Rattle.nl_pseg.specs.Steps.{IsAside, IsIdle, LeadsFrom}
+use Rattle.nl_pseg.specs.Segment.{IsNextToProgram, IsNextCopy, held_at}
+use Rattle.nl_pseg.specs.Seen.{HasPhases, IsPhysicalFormed, IsNamed, IsOldNameInUse, IsTied, seen}
+use Rattle.nl_pseg.specs.Steps.{IsAside, ClosesBlock, LeadsFrom}
 use Rattle.nl_pseg_blocks.specs.Uses.{Use, use_in, SameNumbers, aside_state}
 use Rattle.nl_pseg.specs.declared.held.Held.{Held}
 use Rattle.nl_pseg.specs.Kept.{Kept}
@@ -86,7 +86,7 @@ aside_waits (the.Retired j) k n free waits is = let e : j + 1 ≡ k = cc is in l
 pub record SetAside (block : ℕ) (s m : Kept) : Type 0 where
   pub same : m ≡ record s { blocks = m.blocks; used = m.used; filled = m.filled }
   pub numbers : SameNumbers s.blocks m.blocks
-  pub idle : IsIdle block s m
+  pub idle : ClosesBlock block s m
   pub phases : HasPhases m
   pub kept : (b : ℕ) → (use_in m.blocks b).is_kept ≡ (use_in s.blocks b).is_kept
   pub wears : (b : ℕ) → (use_in m.blocks b).wear ≡ (use_in s.blocks b).wear
@@ -103,7 +103,7 @@ names_most the.Sealed n most = omega arith
 names_most the.Victim n most = omega arith
 names_most (the.Retired names) n most = most names refl
 
-module _ (s : Kept) (is : IsFormed s) (tied : IsTied s) (none : s.victim ≡ None) (block : ℕ) where
+module _ (s : Kept) (is : IsPhysicalFormed s) (tied : IsTied s) (none : s.victim ≡ None) (block : ℕ) where
   out_free : (HasBlock s.blocks block → ⊥) → (use_in s.blocks block).is_free ≡ false
   out_free out = ⊎_elim (λ yes. absurd (out (kept_block s block (free_kept s.blocks block yes)))) (λ no. no) (cases_Bool (use_in s.blocks block).is_free)
 
@@ -160,7 +160,7 @@ some_held : (o : Option Held) → IsSome o → (h : Held) × (o ≡ Some h)
 some_held None some = absurd (true≢false (sym some))
 some_held (Some h) some = (h, refl)
 
-module _ (s : Kept) (is : IsFormed s) (tied : IsTied s) (name page : ℕ) (fresh : IsOld s.names.pairs name → ⊥) (dead : held_at (seen s) name ≡ None) (there : IsSome (held_at (seen s) page)) where
+module _ (s : Kept) (is : IsPhysicalFormed s) (tied : IsTied s) (name page : ℕ) (fresh : IsOld s.names.pairs name → ⊥) (dead : held_at (seen s) name ≡ None) (there : IsSome (held_at (seen s) page)) where
   k : (h : Held) × (held_at (seen s) page ≡ Some h)
   k = some_held (held_at (seen s) page) there
 
@@ -214,13 +214,13 @@ module _ (s : Kept) (is : IsFormed s) (tied : IsTied s) (name page : ℕ) (fresh
     pairs_now : names.pairs ≡ added
     pairs_now = ap (λ (n : NameTable). n.pairs) put
 
-    nexts : (p : ℕ) → IsNext (seen x) p → IsNext (seen s) p × (p / s.blocks.size ≡ name / s.blocks.size → ⊥)
+    nexts : (p : ℕ) → IsNextToProgram (seen x) p → IsNextToProgram (seen s) p × (p / s.blocks.size ≡ name / s.blocks.size → ⊥)
     nexts p next = idle_next s m (name / s.blocks.size) a.idle a.numbers p next
 
     copies : (p : ℕ) → IsNextCopy (seen x) p → IsNextCopy (seen s) p × (p / s.blocks.size ≡ name / s.blocks.size → ⊥)
     copies p next = idle_copy s m (name / s.blocks.size) a.idle a.numbers p next
 
-    standing : (n : ℕ) → IsOld names.pairs n → IsStanding (seen x) n
+    standing : (n : ℕ) → IsOld names.pairs n → IsOldNameInUse (seen x) n
     standing n old = ⊎_elim
         (λ e. record {
           in_use = ap (λ q. (use_in m.blocks (n / q)).is_free) size ∙ (ap (λ q. (use_in m.blocks (q / s.blocks.size)).is_free) e ∙ a.here);
@@ -344,5 +344,5 @@ module _ (s : Kept) (is : IsFormed s) (tied : IsTied s) (name page : ℕ) (fresh
           copies = λ p next. (copies p next).0;
         }
 
-    pub from_formed : IsFormed m → IsFormed (record m { names = names })
+    pub from_formed : IsPhysicalFormed m → IsPhysicalFormed (record m { names = names })
     from_formed f = formed_names m f m.blocks names (record { same_first = refl; same_size = refl; same_count = refl }) (λ b. refl) (record { same = λ p has. refl; rises = λ rising. rising }) f.taken

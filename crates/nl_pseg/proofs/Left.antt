@@ -6,12 +6,12 @@ use Rattle.std.proofs.lemmas.Nat.{mod-mul-add}
 use Rattle.nl_blocks.specs.declared.states.Page.{Page}
 use Rattle.nl_blocks.specs.declared.states.PageState.{PageState}
 use Rattle.nl_blocks.specs.declared.states.PageState.TheVariants.{Dead, Live}
-use Rattle.nl_blocks.specs.Table.{HasBlock, HasPage, IsTable, block_at, dead_count, is_dead, is_dead_state, new_page}
+use Rattle.nl_blocks.specs.Table.{HasBlock, HasPage, IsBlockTable, block_at, dead_count, is_dead, is_dead_state, new_page}
 use Rattle.nl_blocks.proofs.TableLaws.{page_in}
 use Rattle.nl_blocks.proofs.TableProofs.{row_size}
 use Rattle.nl_pseg.specs.Segment.{held_at}
-use Rattle.nl_pseg.specs.Seen.{IsFormed, seen, state_for}
-use Rattle.nl_pseg.specs.Space.{left_of, victims}
+use Rattle.nl_pseg.specs.Seen.{IsPhysicalFormed, seen, state_for}
+use Rattle.nl_pseg.specs.Space.{left_in_victim, victims}
 use Rattle.nl_pseg.specs.declared.held.Held.{Held}
 use Rattle.nl_pseg.specs.Kept.{Kept}
 use Rattle.nl_pseg.proofs.Numbers.{block_of, in_block}
@@ -53,7 +53,7 @@ one_live (p ∷ ps) (suc k) less live =
     let one = small (is_dead p) in
     omega (arith, e, rest, one)
 
-module _ (s : Kept) (is : IsFormed s) (table : IsTable s.blocks) (block : ℕ) (has : HasBlock s.blocks block) where
+module _ (s : Kept) (is : IsPhysicalFormed s) (table : IsBlockTable s.blocks) (block : ℕ) (has : HasBlock s.blocks block) where
   -- a page of the block by its place
   page_of : (k : ℕ) → k < s.blocks.size → (get_or (block_at s.blocks block).pages k new_page).state ≡ state_for (held_at (seen s) (block * s.blocks.size + k))
   page_of k less =
@@ -83,8 +83,8 @@ module _ (s : Kept) (is : IsFormed s) (table : IsTable s.blocks) (block : ℕ) (
       omega (arith, few, n)
 
 -- the live pages of a victim
-pub left_is : (s : Kept) (block : ℕ) → HasBlock s.blocks block → s.victim ≡ Some block → left_of (seen s) ≡ s.blocks.size - dead_count (block_at s.blocks block)
-left_is s block has named = ap (λ v. left_of (record (seen s) { victim = v })) named ∙ ap (λ d. s.blocks.size - d) (dead_here s.blocks block has)
+pub left_is : (s : Kept) (block : ℕ) → HasBlock s.blocks block → s.victim ≡ Some block → left_in_victim (seen s) ≡ s.blocks.size - dead_count (block_at s.blocks block)
+left_is s block has named = ap (λ v. left_in_victim (record (seen s) { victim = v })) named ∙ ap (λ d. s.blocks.size - d) (dead_here s.blocks block has)
 
 pub victims_is : (s : Kept) (block : ℕ) → s.victim ≡ Some block → victims (seen s) ≡ 1
 victims_is s block named = ap (λ v. victims (record (seen s) { victim = v })) named

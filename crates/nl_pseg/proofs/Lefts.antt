@@ -1,8 +1,8 @@
 -- How many pages of the victim are live, as pages die or are written.
 use Rattle.std.proofs.Common.{◌≡◌, ℕ, ◌+◌, ◌*◌, ◌<◌, ◌≤◌, Option, Some, None, List, length, get_or, set, unwrap_or, option_map, refl, sym, ◌∙◌, ap, arith}
-use Rattle.nl_blocks.specs.Table.{IsTable}
-use Rattle.nl_pseg.specs.Seen.{IsFormed, IsTied, seen}
-use Rattle.nl_pseg.specs.Space.{IsWhole, gain_of, left_of, victims}
+use Rattle.nl_blocks.specs.Table.{IsBlockTable}
+use Rattle.nl_pseg.specs.Seen.{IsPhysicalFormed, IsTied, seen}
+use Rattle.nl_pseg.specs.Space.{IsWhole, gain_of, left_in_victim, victims}
 use Rattle.nl_pseg.specs.declared.held.Held.{Held}
 use Rattle.nl_pseg.specs.Kept.{Kept}
 use Rattle.nl_pseg.proofs.Runs.{dead_seen, run, run_ended, run_same}
@@ -11,10 +11,10 @@ use Rattle.nl_pseg.proofs.Runs.{dead_seen, run, run_ended, run_same}
 abbrev pub live_of : List (Option Held) → ℕ → Option ℕ → ℕ
 live_of held size victim = unwrap_or (option_map (λ block. run held (block * size) size) victim) 0
 
-pub left_is : (s : Kept) → IsFormed s → IsTied s → IsTable s.blocks → left_of (seen s) ≡ live_of s.held.items s.blocks.size s.victim
+pub left_is : (s : Kept) → IsPhysicalFormed s → IsTied s → IsBlockTable s.blocks → left_in_victim (seen s) ≡ live_of s.held.items s.blocks.size s.victim
 left_is s is tied table = of s.victim refl
   where
-    of : (v : Option ℕ) → s.victim ≡ v → left_of (record (seen s) { victim = v }) ≡ live_of s.held.items s.blocks.size v
+    of : (v : Option ℕ) → s.victim ≡ v → left_in_victim (record (seen s) { victim = v }) ≡ live_of s.held.items s.blocks.size v
     of None e = refl
     of (Some b) e = let sum = dead_seen s is table b (tied.phases.victim_in b e).0 in omega (arith, sum)
 
@@ -26,14 +26,14 @@ pub live_ended : (xs : List (Option Held)) (page size : ℕ) (v : Option ℕ) �
 live_ended xs page size None within = (omega arith, omega arith)
 live_ended xs page size (Some b) within = run_ended xs page (b * size) size within
 
-module _ (s x : Kept) (is : IsFormed s) (tied : IsTied s) (table : IsTable s.blocks) (now : IsFormed x) (tied_now : IsTied x) (table_now : IsTable x.blocks) (size : x.blocks.size ≡ s.blocks.size) (victim : x.victim ≡ s.victim) where
-  now_is : left_of (seen x) ≡ live_of x.held.items s.blocks.size s.victim
+module _ (s x : Kept) (is : IsPhysicalFormed s) (tied : IsTied s) (table : IsBlockTable s.blocks) (now : IsPhysicalFormed x) (tied_now : IsTied x) (table_now : IsBlockTable x.blocks) (size : x.blocks.size ≡ s.blocks.size) (victim : x.victim ≡ s.victim) where
+  now_is : left_in_victim (seen x) ≡ live_of x.held.items s.blocks.size s.victim
   now_is = left_is x now tied_now table_now ∙ (λ i. live_of x.held.items (size i) (victim i))
 
-  pub left_same : ((b p : ℕ) → s.victim ≡ Some b → b * s.blocks.size ≤ p → p < b * s.blocks.size + s.blocks.size → get_or x.held.items p None ≡ get_or s.held.items p None) → left_of (seen x) ≡ left_of (seen s)
+  pub left_same : ((b p : ℕ) → s.victim ≡ Some b → b * s.blocks.size ≤ p → p < b * s.blocks.size + s.blocks.size → get_or x.held.items p None ≡ get_or s.held.items p None) → left_in_victim (seen x) ≡ left_in_victim (seen s)
   left_same same = now_is ∙ (live_same x.held.items s.held.items s.blocks.size s.victim same ∙ sym (left_is s is tied table))
 
-  pub left_ended : (page : ℕ) → page < length s.held.items → x.held.items ≡ set s.held.items page None → (left_of (seen x) ≤ left_of (seen s)) × (left_of (seen s) ≤ left_of (seen x) + 1)
+  pub left_ended : (page : ℕ) → page < length s.held.items → x.held.items ≡ set s.held.items page None → (left_in_victim (seen x) ≤ left_in_victim (seen s)) × (left_in_victim (seen s) ≤ left_in_victim (seen x) + 1)
   left_ended page within held =
       let a = now_is in
       let b = left_is s is tied table in
@@ -42,5 +42,5 @@ module _ (s x : Kept) (is : IsFormed s) (tied : IsTied s) (table : IsTable s.blo
       (omega (arith, a, b, c, d.0), omega (arith, a, b, c, d.1))
 
   -- what a victim would gain
-  pub gain_by : IsWhole (seen s) → IsWhole (seen x) → left_of (seen x) + gain_of (seen x) ≡ left_of (seen s) + gain_of (seen s)
+  pub gain_by : IsWhole (seen s) → IsWhole (seen x) → left_in_victim (seen x) + gain_of (seen x) ≡ left_in_victim (seen s) + gain_of (seen s)
   gain_by whole whole_now = whole_now.numbers.victim ∙ ((λ i. victims (record (seen s) { victim = victim i }) * size i) ∙ sym whole.numbers.victim)

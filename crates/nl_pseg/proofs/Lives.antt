@@ -9,8 +9,8 @@ use Rattle.nl_blocks.specs.Used.{is_active_state, is_target_state, used_in}
 use Rattle.nl_blocks.proofs.UsedLaws.{used-kind}
 use Rattle.nl_pseg.specs.Kept.{kept}
 use Rattle.nl_pseg.specs.Segment.{held_at}
-use Rattle.nl_pseg.specs.Seen.{IsFormed, IsTied, seen}
-use Rattle.nl_pseg_blocks.specs.Uses.{Uses}
+use Rattle.nl_pseg.specs.Seen.{IsPhysicalFormed, IsTied, seen}
+use Rattle.nl_pseg_blocks.specs.Uses.{CountsUsedPage}
 use Rattle.nl_pseg.specs.declared.held.Held.{Held}
 use Rattle.nl_pseg.specs.declared.state.State.{State}
 use Rattle.nl_pseg.proofs.Closed.{as_counted, closed_by}
@@ -36,7 +36,7 @@ target_is the.Sealed is = absurd (true≢false (sym is))
 target_is the.Victim is = absurd (true≢false (sym is))
 target_is (the.Retired names) is = absurd (true≢false (sym is))
 
-module _ (s : State) (is : IsFormed (kept s)) (tied : IsTied (kept s)) (page : ℕ) (live : IsSome (held_at (seen (kept s)) page)) where
+module _ (s : State) (is : IsPhysicalFormed (kept s)) (tied : IsTied (kept s)) (page : ℕ) (live : IsSome (held_at (seen (kept s)) page)) where
   abbrev block : ℕ
   block = page / s.blocks.size
 
@@ -80,5 +80,5 @@ module _ (s : State) (is : IsFormed (kept s)) (tied : IsTied (kept s)) (page : �
           tied.behind page held.0 held.1 (omega (arith, behind, here, used, at), omega (arith, here, at, within, one.1))
 
   -- where it is marked again as many pages are used as before
-  pub live_counted : (t : Table) → Uses is_active_state page s.blocks t → Uses is_target_state page s.blocks t → kept s ≡ closed_by s t
+  pub live_counted : (t : Table) → CountsUsedPage is_active_state page s.blocks t → CountsUsedPage is_target_state page s.blocks t → kept s ≡ closed_by s t
   live_counted t uses fills = as_counted (kept s) (used_in is_active_state t s.active) (used_in is_target_state t s.target) (uses.again live_used s.active is.active_in) (fills.again live_filled s.target tied.phases.target_in)

@@ -1,9 +1,9 @@
 -- Where the search for a live page goes on is no part of what is seen.
 use Rattle.std.proofs.Common.{ℕ}
-use Rattle.nl_pseg.specs.Seen.{HasPhases, IsFormed, IsNamed, IsTied}
+use Rattle.nl_pseg.specs.Seen.{HasPhases, IsPhysicalFormed, IsNamed, IsTied}
 use Rattle.nl_pseg.specs.Kept.{Kept}
 
-pub formed_looked : (s : Kept) (at : ℕ) → IsFormed s → IsFormed (record s { looked = at })
+pub formed_looked : (s : Kept) (at : ℕ) → IsPhysicalFormed s → IsPhysicalFormed (record s { looked = at })
 formed_looked s at is = record { some = is.some; numbers = is.numbers; pages = is.pages; marks = is.marks; active_in = is.active_in; used_fits = is.used_fits; taken = is.taken; places = is.places; marked = is.marked }
 
 named_looked : (s : Kept) (at : ℕ) → IsNamed s → IsNamed (record s { looked = at })

@@ -4,13 +4,13 @@ use Rattle.nl_field.specs.Page.{Image, page_at, written}
 use Rattle.nl_nand.specs.declared.answers.WriteAnswer.TheVariants as wrote
 use Rattle.nl_pseg_pages.specs.Pages.{main_of, page_with}
 use Rattle.nl_pseg.specs.Answers.{IfPlaced}
-use Rattle.nl_pseg.specs.Cleaning.{IfMoved, IsMoved, Moves, programmed_by}
+use Rattle.nl_pseg.specs.Cleaning.{IfMoved, IsMoved, MovesLivePage, programmed_by}
 use Rattle.nl_pseg.specs.Copies.{CopiesOn, CopiesPage}
-use Rattle.nl_pseg.specs.Effects.{Crashes, Programmed}
+use Rattle.nl_pseg.specs.Effects.{Crashes, PageIsProgrammed}
 use Rattle.nl_pseg.specs.Kept.{Kept}
-use Rattle.nl_pseg.specs.Moving.{LandsPage, MovesOn, MovesPage}
+use Rattle.nl_pseg.specs.Moving.{LandsPage, MovesOn, MovesPageOrNone}
 use Rattle.nl_pseg.specs.Seen.{IsTied, seen}
-use Rattle.nl_pseg.specs.Segment.{HasSpare, InVictim, IsDead, IsPhysicalOf, KeepsBlock, Physical, held_at, wear_of}
+use Rattle.nl_pseg.specs.Segment.{CanSpareBlock, InVictim, IsDead, IsPhysicalOf, KeepsBlock, Physical, held_at, wear_of}
 use Rattle.nl_pseg.specs.Space.{HasFewPairs}
 use Rattle.nl_pseg.specs.Steps.{IsAlone, IsCopyUsed, IsLed, IsReadied, ReadiedOn}
 use Rattle.nl_pseg.specs.declared.cleaned.Copied.{Copied}
@@ -36,18 +36,18 @@ pub nothing_copied : (seg : Physical) → CopiesPage copy.Nothing seg seg
 nothing_copied seg = record { moved = tt; kept = λ not. still_none seg; lost = λ w f e. absurd (nothing_lost e); clean = λ clean. clean; kept_block = λ k. k }
 
 -- the page that was read is lost, or could not be read
-pub lost_moves : (seg : Physical) (page : ℕ) (h : Held) (w f : ℕ) → ((v g : ℕ) → copy.Lost w f ≡ copy.Lost v g → (g ≡ v → ⊥) × (h.stamp ≡ v)) → MovesPage page h (copy.Lost w f) seg seg
+pub lost_moves : (seg : Physical) (page : ℕ) (h : Held) (w f : ℕ) → ((v g : ℕ) → copy.Lost w f ≡ copy.Lost v g → (g ≡ v → ⊥) × (h.stamp ≡ v)) → MovesPageOrNone page h (copy.Lost w f) seg seg
 lost_moves seg page h w f lost = record { moved = tt; kept = λ not. still_none seg; lost = lost; clean = λ clean. clean }
 
-pub fault_moves : (seg : Physical) (page : ℕ) (h : Held) → MovesPage page h copy.Fault seg seg
+pub fault_moves : (seg : Physical) (page : ℕ) (h : Held) → MovesPageOrNone page h copy.Fault seg seg
 fault_moves seg page h = record { moved = tt; kept = λ not. still_none seg; lost = λ w f e. absurd (fault_lost e); clean = λ clean. clean }
 
 -- no page could be had for the copy
-pub readied_moves : {seg mid : Physical} (page : ℕ) (h : Held) → IsReadied seg mid → MovesPage page h copy.Fault seg mid
+pub readied_moves : {seg mid : Physical} (page : ℕ) (h : Held) → IsReadied seg mid → MovesPageOrNone page h copy.Fault seg mid
 readied_moves page h r = record { moved = tt; kept = λ not. readied_none r; lost = λ w f e. absurd (fault_lost e); clean = r.clean }
 
 -- the copy landed, or its program failed
-pub landed_moves : {seg mid new : Physical} {page : ℕ} {h : Held} (answer : Copied) → IsReadied seg mid → LandsPage page h answer mid new → MovesPage page h answer seg new
+pub landed_moves : {seg mid new : Physical} {page : ℕ} {h : Held} (answer : Copied) → IsReadied seg mid → LandsPage page h answer mid new → MovesPageOrNone page h answer seg new
 landed_moves answer r l = record {
   moved = if_moved answer (λ b a held m. (m.0, m.2, moves_then r l.same_room m.3)) l.moved;
   kept = λ not. none_then r l.same_room (l.kept not).1;
@@ -56,7 +56,7 @@ landed_moves answer r l = record {
 }
 
 -- some live page of the victim was moved, or none was
-pub moves_copied : {seg : Physical} (n : Kept) (page : ℕ) (h : Held) (answer : Copied) → IsTied n → InVictim seg page → held_at seg page ≡ Some h → MovesPage page h answer seg (seen n) → CopiesPage answer seg (seen n)
+pub moves_copied : {seg : Physical} (n : Kept) (page : ℕ) (h : Held) (answer : Copied) → IsTied n → InVictim seg page → held_at seg page ≡ Some h → MovesPageOrNone page h answer seg (seen n) → CopiesPage answer seg (seen n)
 moves_copied {seg} n page h answer tied victim live m = record {
   moved = if_moved answer (λ b a held x. x.2) m.moved;
   kept = m.kept;
@@ -75,7 +75,7 @@ pub landed_moved : {seg mid new : Physical} (page after : ℕ) (h : Held) → af
 landed_moved {seg} {mid} {new} page after h at used at_after victim live dead =
     let led : IsLed page seg.copy_next mid new = subst (λ n. IsLed page n mid new) at at_after in
     record {
-      moved = (refl, at, refl, subst (λ n. Moves page n h seg new) (sym at) (moved used led victim live dead));
+      moved = (refl, at, refl, subst (λ n. MovesLivePage page n h seg new) (sym at) (moved used led victim live dead));
       kept = λ not. absurd (not tt);
       same_room = moved_room used led;
       clean = moved_clean used led;
@@ -100,12 +100,12 @@ pub read_moves_on : {M : Type 0} {clock : M → ℕ} {contents : M → Image} {l
 read_moves_on {seg = seg} page h answer not told same is crash = record {
   told = told;
   segment = subst (λ i. IsPhysicalOf i seg) (sym same) is;
-  spare = λ spare. subst (λ i. HasSpare i seg) (sym same) spare;
+  spare = λ spare. subst (λ i. CanSpareBlock i seg) (sym same) spare;
   programmed = if_none answer _ not;
   crash = crash;
 }
 
-pub moves_copied_on : {M : Type 0} {clock : M → ℕ} {contents : M → Image} {left : M → ℕ → Image → Type 0} {seg new : Physical} {a d : M} (page : ℕ) (h : Held) (answer : Copied) → InVictim seg page → held_at seg page ≡ Some h → MovesPage page h answer seg new
+pub moves_copied_on : {M : Type 0} {clock : M → ℕ} {contents : M → Image} {left : M → ℕ → Image → Type 0} {seg new : Physical} {a d : M} (page : ℕ) (h : Held) (answer : Copied) → InVictim seg page → held_at seg page ≡ Some h → MovesPageOrNone page h answer seg new
     → MovesOn clock contents left page h answer seg new a d → CopiesOn clock contents left answer seg new a d
 moves_copied_on page h answer victim live moves m = record {
   told = m.told;
@@ -119,12 +119,12 @@ moves_copied_on page h answer victim live moves m = record {
 pub copied_programmed : {M : Type 0} {clock : M → ℕ} {contents : M → Image} {left : M → ℕ → Image → Type 0} {seg mid new : Physical} {a m : M} (d : M) (answer : Copied) → IsReadied seg mid → (h : Held) (main : List ℕ) (page : ℕ) → ReadiedOn clock contents left wrote.Done seg mid a m
     → main_of (page_at (contents a) page) ≡ main → LandsPage page h answer mid new
     → IfPlaced (programmed_by answer) (λ at. IsAlone at.name (written (page_with main h.tag h.stamp (wear_of mid (at.name / mid.size)))) (contents m) (contents d))
-    → IfMoved answer (λ before after held. Programmed seg after (written (page_with (main_of (page_at (contents a) before)) held.tag held.stamp (wear_of seg (after / seg.size)))) (contents a) (contents d))
+    → IfMoved answer (λ before after held. PageIsProgrammed seg after (written (page_with (main_of (page_at (contents a) before)) held.tag held.stamp (wear_of seg (after / seg.size)))) (contents a) (contents d))
 copied_programmed {contents = contents} {seg = seg} {a = a} d (copy.Moved before after tag stamp) r h main page on bytes l alone =
     let m = l.moved in
     let same_held : h ≡ record { tag = tag; stamp = stamp } = sym m.2 in
     let same_main : main ≡ main_of (page_at (contents a) before) = sym (ap (λ p. main_of (page_at (contents a) p)) m.0 ∙ bytes) in
-    subst (λ v. Programmed seg after v (contents a) (contents d)) (λ i. written (page_with (same_main i) (same_held i).tag (same_held i).stamp (wear_of seg (after / seg.size))))
+    subst (λ v. PageIsProgrammed seg after v (contents a) (contents d)) (λ i. written (page_with (same_main i) (same_held i).tag (same_held i).stamp (wear_of seg (after / seg.size))))
     (landed_programmed r h.tag h.stamp main after on (readied_dead r after m.3.dead) m.1 alone)
 copied_programmed d copy.Nothing r h main page on bytes l alone = tt
 copied_programmed d (copy.Lost wanted found) r h main page on bytes l alone = tt

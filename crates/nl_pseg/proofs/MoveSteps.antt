@@ -6,11 +6,11 @@ use Rattle.nl_field.specs.declared.answers.Named.TheVariants as named
 use Rattle.nl_field.specs.declared.pointer.Tag.{Tag}
 use Rattle.nl_nand.specs.declared.answers.WriteAnswer.{WriteAnswer}
 use Rattle.nl_nand.specs.declared.answers.WriteAnswer.TheVariants as wrote
-use Rattle.nl_nand.specs.Nand.{FaultsCounted, SameLeft}
+use Rattle.nl_nand.specs.Nand.{FaultsCounted, SameCrashStates}
 use Rattle.nl_nand.proofs.Crashes.{still, turns_later, weaken}
 use Rattle.nl_pseg.specs.Answers.{IsPlaced}
 use Rattle.nl_pseg.specs.Cleaning.{CountedMove, IfMoved, IsMoved, programmed_by}
-use Rattle.nl_pseg.specs.Effects.{Crashes, Keeps, Places, Programmed, Takes}
+use Rattle.nl_pseg.specs.Effects.{Crashes, PreservesSegment, PlacesOnImage, PageIsProgrammed, TakesImagePage}
 use Rattle.nl_pseg_pages.specs.Pages.{page_with, shown_by}
 use Rattle.nl_pseg.specs.Segment.{Physical, IsDead, is_free, is_soiled, wear_of}
 use Rattle.nl_pseg.specs.Steps.{IsAlone, IsReadied, ReadiedOn}
@@ -127,22 +127,22 @@ value {seg} {mid} r tag stamp main page = ap (λ w. written (page_with main tag 
 
 module _ {M : Type 0} {clock : M → ℕ} {contents : M → Image} {left : M → ℕ → Image → Type 0} where
   -- nothing was programmed
-  pub read_crashes : {seg : Physical} {a r : M} (tag : Tag) (stamp : ℕ) (main : List ℕ) → contents r ≡ contents a → clock r ≡ clock a → SameLeft left a r → Crashes clock contents left seg tag stamp main a r named.Fault
+  pub read_crashes : {seg : Physical} {a r : M} (tag : Tag) (stamp : ℕ) (main : List ℕ) → contents r ≡ contents a → clock r ≡ clock a → SameCrashStates left a r → Crashes clock contents left seg tag stamp main a r named.Fault
   read_crashes {seg} {a} {r} tag stamp main same same_clock same_left = record {
     page = 0;
     named = tt;
-    either = inl (subst (Keeps seg (contents a)) (sym same) (keeps_nothing seg (contents a)));
-    crash = still (Turns (IsPlaced named.Fault) (clock r) (λ c. Keeps seg (contents a) c) (λ c. Places seg 0 tag stamp main (contents a) c)) same_clock same_left.no_more;
+    either = inl (subst (PreservesSegment seg (contents a)) (sym same) (keeps_nothing seg (contents a)));
+    crash = still (Turns (IsPlaced named.Fault) (clock r) (λ c. PreservesSegment seg (contents a) c) (λ c. PlacesOnImage seg 0 tag stamp main (contents a) c)) same_clock same_left.no_more;
   }
 
   -- after a read
-  pub readied_read : {answer : WriteAnswer} {seg mid : Physical} {a r m : M} → contents r ≡ contents a → clock r ≡ clock a → SameLeft left a r → ReadiedOn clock contents left answer seg mid r m → ReadiedOn clock contents left answer seg mid a m
+  pub readied_read : {answer : WriteAnswer} {seg mid : Physical} {a r m : M} → contents r ≡ contents a → clock r ≡ clock a → SameCrashStates left a r → ReadiedOn clock contents left answer seg mid r m → ReadiedOn clock contents left answer seg mid a m
   readied_read {answer} {seg} {mid} {a} {r} {m} same same_clock same_left on = record {
     segment = on.segment;
-    keeps = subst (λ i. Keeps seg i (contents m)) same on.keeps;
+    keeps = subst (λ i. PreservesSegment seg i (contents m)) same on.keeps;
     crash = record {
       later = let l = on.crash.later in omega (arith, same_clock, l);
-      each = λ n c is. ⊎_elim (λ before. inl (same_left.no_more n c before)) (λ here. inr (let x = here.0 in omega (arith, same_clock, x), here.1, subst (λ i. Keeps seg i c) same here.2)) (on.crash.each n c is);
+      each = λ n c is. ⊎_elim (λ before. inl (same_left.no_more n c before)) (λ here. inr (let x = here.0 in omega (arith, same_clock, x), here.1, subst (λ i. PreservesSegment seg i c) same here.2)) (on.crash.each n c is);
     };
     others = λ done p. ⊎_elim (λ is. inl (is ∙ ap (λ i. page_at i p) same)) (λ x. inr x) (on.others done p);
   }
@@ -152,7 +152,7 @@ module _ {M : Type 0} {clock : M → ℕ} {contents : M → Image} {left : M →
     page = 0;
     named = tt;
     either = inl on.keeps;
-    crash = weaken (λ n c. Keeps seg (contents a) c) (Turns (IsPlaced named.Fault) (clock m) (λ c. Keeps seg (contents a) c) (λ c. Places seg 0 tag stamp main (contents a) c)) on.crash
+    crash = weaken (λ n c. PreservesSegment seg (contents a) c) (Turns (IsPlaced named.Fault) (clock m) (λ c. PreservesSegment seg (contents a) c) (λ c. PlacesOnImage seg 0 tag stamp main (contents a) c)) on.crash
         (λ n c from to k. inl ((λ placed. absurd placed), k));
   }
 
@@ -164,21 +164,21 @@ module _ {M : Type 0} {clock : M → ℕ} {contents : M → Image} {left : M →
       page = k.page;
       named = k.named;
       either = ⊎_elim (λ x. inl (keeps_then (readied_dead r) on.keeps x)) (λ x. inr (takes_on (contents d) x)) k.either;
-      crash = turns_later (IsPlaced (programmed_by answer)) (λ c. Keeps seg (contents a) c) (λ c. Places seg k.page tag stamp main (contents a) c) on.crash
-          (weaken (Turns (IsPlaced (programmed_by answer)) (clock d) (λ c. Keeps mid (contents m) c) (λ c. Places mid k.page tag stamp main (contents m) c))
-          (Turns (IsPlaced (programmed_by answer)) (clock d) (λ c. Keeps seg (contents a) c) (λ c. Places seg k.page tag stamp main (contents a) c)) k.crash
+      crash = turns_later (IsPlaced (programmed_by answer)) (λ c. PreservesSegment seg (contents a) c) (λ c. PlacesOnImage seg k.page tag stamp main (contents a) c) on.crash
+          (weaken (Turns (IsPlaced (programmed_by answer)) (clock d) (λ c. PreservesSegment mid (contents m) c) (λ c. PlacesOnImage mid k.page tag stamp main (contents m) c))
+          (Turns (IsPlaced (programmed_by answer)) (clock d) (λ c. PreservesSegment seg (contents a) c) (λ c. PlacesOnImage seg k.page tag stamp main (contents a) c)) k.crash
           (λ n c from to is. ⊎_elim (λ x. inl (x.0, keeps_then (readied_dead r) on.keeps x.1)) (λ x. inr (takes_on c x)) is))
           (λ placed. strict (placed_moved answer placed));
     }
       where
-        takes_on : (c : Image) → Places mid k.page tag stamp main (contents m) c → Places seg k.page tag stamp main (contents a) c
+        takes_on : (c : Image) → PlacesOnImage mid k.page tag stamp main (contents m) c → PlacesOnImage seg k.page tag stamp main (contents a) c
         takes_on c x = record {
-          takes = subst (λ v. Takes seg k.page v (contents a) c) (value r tag stamp main k.page) (takes_then (readied_dead r) on.keeps x.takes);
+          takes = subst (λ v. TakesImagePage seg k.page v (contents a) c) (value r tag stamp main k.page) (takes_then (readied_dead r) on.keeps x.takes);
           shows = sym (ap shown_by (value r tag stamp main k.page)) ∙ x.shows;
         }
 
     pub landed_programmed : {a m d : M} (tag : Tag) (stamp : ℕ) (main : List ℕ) (after : ℕ) → ReadiedOn clock contents left wrote.Done seg mid a m → IsDead seg after → after ≡ mid.copy_next
-        → IsAlone after (written (page_with main tag stamp (wear_of mid (after / mid.size)))) (contents m) (contents d) → Programmed seg after (written (page_with main tag stamp (wear_of seg (after / seg.size)))) (contents a) (contents d)
+        → IsAlone after (written (page_with main tag stamp (wear_of mid (after / mid.size)))) (contents m) (contents d) → PageIsProgrammed seg after (written (page_with main tag stamp (wear_of seg (after / seg.size)))) (contents a) (contents d)
     landed_programmed {a} {m} {d} tag stamp main after on dead next alone = record {
       dead = dead;
       has = alone.has ∙ value r tag stamp main after;

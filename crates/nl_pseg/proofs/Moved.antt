@@ -2,7 +2,7 @@
 use Rattle.std.proofs.Common.{◌≡◌, inl, inr, ⊎_elim, ℕ, ◌+◌, ◌-◌, ◌*◌, ◌/◌, ◌≤◌, ◌==◌, if◌then◌else◌, Option, Some, None, Contains, List, length, get_or, set, refl, sym, ◌∙◌, ap, subst, arith, is_some}
 use Rattle.std.proofs.lemmas.List.{set-get_or}
 use Rattle.nl_field.specs.Live.{resolve}
-use Rattle.nl_pseg.specs.Cleaning.{Moves, MovesNone}
+use Rattle.nl_pseg.specs.Cleaning.{MovesLivePage, MovesNone}
 use Rattle.nl_pseg.specs.Segment.{InVictim, IsClean, IsDead, Physical, held_at, room}
 use Rattle.nl_pseg_blocks.specs.Uses.{Use}
 use Rattle.nl_pseg.specs.Space.{HasFewPairs, HasRoomForVictim, landing, reach, victims, waiting}
@@ -24,7 +24,7 @@ module _ {before : ℕ} {h : Held} {seg mid new : Physical} (u : IsCopyUsed (Som
       let blocks : (new.free - 1) * new.size ≡ (seg.free - 1) * seg.size = (λ i. ((l.free ∙ u.free) i - 1) * (l.pages.same_size ∙ u.pages.same_size) i) in
       omega (arith, a, b, blocks)
 
-  pub moved : InVictim seg before → held_at seg before ≡ Some h → IsDead seg seg.copy_next → Moves before seg.copy_next h seg new
+  pub moved : InVictim seg before → held_at seg before ≡ Some h → IsDead seg seg.copy_next → MovesLivePage before seg.copy_next h seg new
   moved victim was dead =
       let free = l.free ∙ u.free in
       let size = l.pages.same_size ∙ u.pages.same_size in
@@ -133,7 +133,7 @@ module _ {seg mid : Physical} (r : IsReadied seg mid) where
       let e = r.pages.same_size in
       omega (arith, n, was, l, e)
 
-  pub moves_then : {before after : ℕ} {h : Held} {new : Physical} → room new ≡ room mid → Moves before after h mid new → Moves before after h seg new
+  pub moves_then : {before after : ℕ} {h : Held} {new : Physical} → room new ≡ room mid → MovesLivePage before after h mid new → MovesLivePage before after h seg new
   moves_then {before} {after} {h} {new} same m =
       let w = readied_blocks in
       let left = r.next.1 in
@@ -208,7 +208,7 @@ still_none seg = record {
 }
 
 -- few pairs stay few
-pub moved_few : {before after : ℕ} {h : Held} {seg new : Physical} → Moves before after h seg new → HasFewPairs seg → HasFewPairs new
+pub moved_few : {before after : ℕ} {h : Held} {seg new : Physical} → MovesLivePage before after h seg new → HasFewPairs seg → HasFewPairs new
 moved_few {before} {after} {h} {seg} {new} m few one =
     let n = m.pairs in
     let v : victims seg ≡ 1 = ap (λ o. victims (record seg { victim = o })) (sym m.victim) ∙ one in

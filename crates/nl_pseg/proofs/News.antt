@@ -14,7 +14,7 @@ use Rattle.nl_remap.specs.Links.{HasLink}
 use Rattle.nl_remap.specs.Table.{IsOld, IsRemap, told}
 use Rattle.nl_pseg_names.specs.OldNames.{NameTable}
 use Rattle.nl_pseg.specs.Segment.{InSegment, KeepsBlock, TakenAsErased, room}
-use Rattle.nl_pseg.specs.Seen.{IsFormed, IsTied, new_segment, row_of, seen, state_for}
+use Rattle.nl_pseg.specs.Seen.{IsPhysicalFormed, IsTied, new_segment, row_of, seen, state_for}
 use Rattle.nl_pseg_blocks.specs.Uses.{Use, no_use, use_at, use_of, use_with}
 use Rattle.nl_pseg.specs.declared.held.Held.{Held}
 use Rattle.nl_pseg.specs.Kept.{Kept}
@@ -141,7 +141,7 @@ module _ (shape : Shape) (roomy : ShapeBounds shape) (s : Kept) (table : s.block
       let e : get_or (replicate shape.pblocks (new_row shape.pages)) (b - shape.vblocks) no_row ≡ new_row shape.pages = get_or-replicate shape.pblocks (b - shape.vblocks) (new_row shape.pages) no_row (let f = now.from in let w = now.below in omega (arith, f, w, count)) in
       sym (ap (λ (t : Table). (block_at t b).state) table ∙ ap (λ (r : BlockRow). r.state) e) ∙ is
 
-  pub new_formed : IsFormed s
+  pub new_formed : IsPhysicalFormed s
   new_formed =
       let some = some_pages roomy in
       record {

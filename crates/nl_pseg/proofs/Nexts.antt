@@ -4,13 +4,13 @@ use Rattle.std.proofs.lemmas.Nat.{mod-mul-add}
 use Rattle.nl_blocks.specs.Table.{Table, block_at}
 use Rattle.nl_blocks.specs.Used.{is_active_state, is_target_state, used_in}
 use Rattle.nl_pseg.specs.Kept.{kept}
-use Rattle.nl_pseg.specs.Seen.{IsFormed, IsTied, seen}
-use Rattle.nl_pseg_blocks.specs.Uses.{Uses}
+use Rattle.nl_pseg.specs.Seen.{IsPhysicalFormed, IsTied, seen}
+use Rattle.nl_pseg_blocks.specs.Uses.{CountsUsedPage}
 use Rattle.nl_pseg.specs.declared.state.State.{State}
 use Rattle.nl_pseg.proofs.Closed.{shut_used}
 use Rattle.nl_pseg.proofs.Numbers.{block_of}
 
-module _ (s : State) (is : IsFormed (kept s)) (tied : IsTied (kept s)) (page : ℕ) where
+module _ (s : State) (is : IsPhysicalFormed (kept s)) (tied : IsTied (kept s)) (page : ℕ) where
   module _ (room : (kept s).used < s.blocks.size) (next : page ≡ (seen (kept s)).next) where
     next_block : page / s.blocks.size ≡ s.active
     next_block = block_of page s.blocks.size s.active (omega (arith, next)) (omega (arith, next, room))
@@ -25,7 +25,7 @@ module _ (s : State) (is : IsFormed (kept s)) (tied : IsTied (kept s)) (page : �
     pub next_filled : page % s.blocks.size < used_in is_target_state s.blocks (page / s.blocks.size)
     next_filled = shut_used is_target_state s.blocks page is.some (ap (λ b. is_target_state (block_at s.blocks b).state) next_block ∙ ap is_target_state (is.taken room))
 
-    module _ (t : Table) (uses : Uses is_active_state page s.blocks t) (fills : Uses is_target_state page s.blocks t) where
+    module _ (t : Table) (uses : CountsUsedPage is_active_state page s.blocks t) (fills : CountsUsedPage is_target_state page s.blocks t) where
       pub next_used : used_in is_active_state t s.active ≡ (kept s).used + 1
       next_used = ap (used_in is_active_state t) (sym next_block) ∙ (uses.next next_at ∙ ap (λ b. used_in is_active_state s.blocks b + 1) next_block)
 
@@ -46,7 +46,7 @@ module _ (s : State) (is : IsFormed (kept s)) (tied : IsTied (kept s)) (page : �
     pub copy_used : page % s.blocks.size < used_in is_active_state s.blocks (page / s.blocks.size)
     copy_used = shut_used is_active_state s.blocks page is.some (ap (λ b. is_active_state (block_at s.blocks b).state) copy_block ∙ ap is_active_state (tied.phases.filling room))
 
-    module _ (t : Table) (uses : Uses is_active_state page s.blocks t) (fills : Uses is_target_state page s.blocks t) where
+    module _ (t : Table) (uses : CountsUsedPage is_active_state page s.blocks t) (fills : CountsUsedPage is_target_state page s.blocks t) where
       pub copy_fill : used_in is_target_state t s.target ≡ (kept s).filled + 1
       copy_fill = ap (used_in is_target_state t) (sym copy_block) ∙ (fills.next copy_at ∙ ap (λ b. used_in is_target_state s.blocks b + 1) copy_block)
 

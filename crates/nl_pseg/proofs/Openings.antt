@@ -5,9 +5,9 @@ use Rattle.std.proofs.lemmas.List.{length-map}
 use Rattle.std.proofs.lemmas.List.Sums.{sum_by-cons}
 use Rattle.nl_blocks.specs.Table.{BlockRow, Table, HasBlock, row_at, is_free, free_count}
 use Rattle.nl_pseg.specs.Segment.{Physical, KeepsBlock, wear_of}
-use Rattle.nl_pseg.specs.Seen.{IsFormed, seen}
-use Rattle.nl_pseg.specs.Steps.{IsOpened, opened_at}
-use Rattle.nl_pseg_blocks.specs.Uses.{Use, use_in, use_of, use_with, Restated}
+use Rattle.nl_pseg.specs.Seen.{IsPhysicalFormed, seen}
+use Rattle.nl_pseg.specs.Steps.{OpensFreeBlock, opened_at}
+use Rattle.nl_pseg_blocks.specs.Uses.{Use, use_in, use_of, use_with, SetsUse}
 use Rattle.nl_pseg.specs.Kept.{Kept}
 use Rattle.nl_pseg.proofs.Numbers.{block_of}
 use Rattle.nl_pseg_blocks.proofs.Tables.{free_kept, use_here}
@@ -34,12 +34,12 @@ some_free t some =
     let has : HasBlock t (t.first + row.0) = record { from = omega arith; below = omega (arith, row.1) } in
     (t.first + row.0, has, ap (λ (u : Use). u.is_free) (use_here t (t.first + row.0) has) ∙ (ap (λ n. is_free (row_at t.blocks n)) (omega arith) ∙ row.2))
 
-pub some_kept : (s : Kept) → IsFormed s → 1 ≤ free_count s.blocks → KeepsBlock (seen s)
+pub some_kept : (s : Kept) → IsPhysicalFormed s → 1 ≤ free_count s.blocks → KeepsBlock (seen s)
 some_kept s is some = let free = some_free s.blocks some in record { block = free.0; from = free.1.from; below = free.1.below; kept = inl (free_kept s.blocks free.0 free.2) }
 
 -- a block that was taken is opened
-pub opened : (s : Kept) (t : Table) (block : ℕ) → IsFormed s → s.blocks.size ≤ s.used → 2 ≤ free_count s.blocks → Restated block false (wear_of (seen s) block) s.blocks t → (use_in s.blocks block).is_free ≡ true
-    → IsFormed (record s { blocks = t }) → IsOpened block (seen s) (opened_at (seen (record s { blocks = t })) block)
+pub opened : (s : Kept) (t : Table) (block : ℕ) → IsPhysicalFormed s → s.blocks.size ≤ s.used → 2 ≤ free_count s.blocks → SetsUse block false (wear_of (seen s) block) s.blocks t → (use_in s.blocks block).is_free ≡ true
+    → IsPhysicalFormed (record s { blocks = t }) → OpensFreeBlock block (seen s) (opened_at (seen (record s { blocks = t })) block)
 opened s t block is full two r free formed =
     let was : num (use_in s.blocks block).is_free ≡ 1 = ap num free in
     let total = r.total in
@@ -70,7 +70,7 @@ opened s t block is full two r free formed =
     }
 
 -- the page that is programmed next is the first one of the block
-pub opened_block : {block : ℕ} {old new : Physical} → IsOpened block old new → 0 < old.size → new.next / old.size ≡ block
+pub opened_block : {block : ℕ} {old new : Physical} → OpensFreeBlock block old new → 0 < old.size → new.next / old.size ≡ block
 opened_block {block} {old} {new} o some = let n = o.next in block_of new.next old.size block (omega (arith, n)) (omega (arith, n, some))
 
 -- with no page left in the block that is written to, there is room in two Free blocks
@@ -94,7 +94,7 @@ one_free size filled free full room = elim (cases_lt 0 free) [
 ]
 
 -- a Free block is kept too
-pub free_use : (s : Kept) (block : ℕ) → IsFormed s → (use_in s.blocks block).is_free ≡ true → use_in s.blocks block ≡ use_with true (use_in s.blocks block).wear
+pub free_use : (s : Kept) (block : ℕ) → IsPhysicalFormed s → (use_in s.blocks block).is_free ≡ true → use_in s.blocks block ≡ use_with true (use_in s.blocks block).wear
 free_use s block is free =
     let kept : (use_in s.blocks block).is_kept ≡ true = free_kept s.blocks block free in
     (λ i. record { is_free = free i; is_kept = kept i; wear = (use_in s.blocks block).wear })

@@ -5,14 +5,14 @@ use Rattle.nl_field.specs.declared.answers.Named.{Named}
 use Rattle.nl_field.specs.declared.answers.Named.TheVariants as the
 use Rattle.nl_field.specs.declared.pointer.Pointer.{Pointer}
 use Rattle.nl_field.specs.declared.pointer.Tag.{Tag}
-use Rattle.nl_blocks.specs.Table.{IsTable}
-use Rattle.nl_pseg.specs.Answers.{IfPlaced, IsFault, IsPlaced, is_placed}
+use Rattle.nl_blocks.specs.Table.{IsBlockTable}
+use Rattle.nl_pseg.specs.Answers.{IfPlaced, IsWriteFault, IsPlaced, is_placed}
 use Rattle.nl_pseg.specs.Effects.{Crashes}
-use Rattle.nl_pseg.specs.Segment.{HasSpare, IsClean, IsReady, IsSpent, IsUnspent, KeepsBlock, Physical, SamePages, room, without_target, CountsErases}
-use Rattle.nl_pseg.specs.Seen.{IsFormed, IsTied, seen}
-use Rattle.nl_pseg.specs.Space.{HasFewPairs, Lessens, SameCleaning, left_of, waiting}
-use Rattle.nl_pseg.specs.Steps.{Ends, Placing, WritesOver}
-use Rattle.nl_pseg.specs.Writes.{ReplacesPage, Writes}
+use Rattle.nl_pseg.specs.Segment.{CanSpareBlock, IsClean, NeedsNoErase, IsSpent, IsUnspent, KeepsBlock, Physical, SameBlocksAndPages, room, without_target, CountsErases}
+use Rattle.nl_pseg.specs.Seen.{IsPhysicalFormed, IsTied, seen}
+use Rattle.nl_pseg.specs.Space.{HasFewPairs, Lessens, SameCleaning, left_in_victim, waiting}
+use Rattle.nl_pseg.specs.Steps.{EndsPage, Placing, WritesOver}
+use Rattle.nl_pseg.specs.Writes.{ReplacesPage, WritesSegment}
 use Rattle.nl_pseg.specs.declared.held.Held.{Held}
 use Rattle.nl_pseg.specs.Kept.{Kept}
 use Rattle.nl_pseg.proofs.Ended.{ended_was, few_on, gone_kept, gone_pages, gone_room, gone_spare, gone_unspent, more_landing}
@@ -38,7 +38,7 @@ one_placed the.NotLive is = absurd is
 one_placed the.NoPage is = absurd is
 one_placed the.Fault is = absurd is
 
-failed_not : (answer : Named) → IsPlaced answer → IsFault answer → ⊥
+failed_not : (answer : Named) → IsPlaced answer → IsWriteFault answer → ⊥
 failed_not (the.Placed at) placed fault = cc fault
 failed_not the.NotLive placed fault = placed
 failed_not the.NoPage placed fault = placed
@@ -57,7 +57,7 @@ same_length the.NotLive stamp x old new is = ap length (is.same (λ n. n))
 same_length the.NoPage stamp x old new is = ap length (is.same (λ n. n))
 same_length the.Fault stamp x old new is = ap length (is.same (λ n. n))
 
-module _ (answer : Named) (place stamp : ℕ) (x : Option Held) (s n : Kept) (is : IsFormed s) (tied : IsTied s) (table : IsTable s.blocks) (few : HasFewPairs (seen s)) (now : IsFormed n) (tied_now : IsTied n) (table_now : IsTable n.blocks)
+module _ (answer : Named) (place stamp : ℕ) (x : Option Held) (s n : Kept) (is : IsPhysicalFormed s) (tied : IsTied s) (table : IsBlockTable s.blocks) (few : HasFewPairs (seen s)) (now : IsPhysicalFormed n) (tied_now : IsTied n) (table_now : IsBlockTable n.blocks)
     (o : WritesOver place stamp (λ at. set s.held.items at.name x) answer (seen s) (seen n)) where
   -- no page was placed
   module _ (not : IsPlaced answer → ⊥) where
@@ -69,7 +69,7 @@ module _ (answer : Named) (place stamp : ℕ) (x : Option Held) (s n : Kept) (is
 
   -- one was
   module _ (yes : IsPlaced answer) where
-    d : Ends place o.mid (seen n)
+    d : EndsPage place o.mid (seen n)
     d = o.ended yes
 
     size : n.blocks.size ≡ s.blocks.size
@@ -86,9 +86,9 @@ module _ (answer : Named) (place stamp : ℕ) (x : Option Held) (s n : Kept) (is
         let w = d.within.1 in
         omega (arith, count, pages, bound, w)
 
-    less_left : (left_of (seen n) ≤ left_of (seen s)) × (left_of (seen s) ≤ left_of (seen n) + 1)
+    less_left : (left_in_victim (seen n) ≤ left_in_victim (seen s)) × (left_in_victim (seen s) ≤ left_in_victim (seen n) + 1)
     less_left =
-        let a : left_of (seen n) ≡ live_of (set o.mid.held place None) s.blocks.size s.victim = left_is n now tied_now table_now ∙ (λ i. live_of (d.held i) (size i) (victim i)) in
+        let a : left_in_victim (seen n) ≡ live_of (set o.mid.held place None) s.blocks.size s.victim = left_is n now tied_now table_now ∙ (λ i. live_of (d.held i) (size i) (victim i)) in
         let b = live_ended o.mid.held place s.blocks.size s.victim place_within in
         let c : live_of o.mid.held s.blocks.size s.victim ≡ live_of s.held.items s.blocks.size s.victim = live_same o.mid.held s.held.items s.blocks.size s.victim (placed_same answer stamp x (seen s) o.mid o.placing) in
         let e = left_is s is tied table in
@@ -146,7 +146,7 @@ module _ (answer : Named) (place stamp : ℕ) (x : Option Held) (s n : Kept) (is
   over_same : (IsPlaced answer → ⊥) → n.held.items ≡ s.held.items
   over_same not = (only not).same not
 
-  over_failed : IsFault answer → IsSpent (seen s) (seen n) ⊎ (IsUnspent (seen s) (seen n) × (IsReady (seen s) → ⊥))
+  over_failed : IsWriteFault answer → IsSpent (seen s) (seen n) ⊎ (IsUnspent (seen s) (seen n) × (NeedsNoErase (seen s) → ⊥))
   over_failed fault = (only (λ yes. failed_not answer yes fault)).failed fault
 
   over_held : IfPlaced answer (λ at. n.held.items ≡ set (set s.held.items at.name x) place None)
@@ -170,7 +170,7 @@ module _ (answer : Named) (place stamp : ℕ) (x : Option Held) (s n : Kept) (is
       })
       (placed_or_not answer)
 
-  over_pages : SamePages (seen s) (seen n)
+  over_pages : SameBlocksAndPages (seen s) (seen n)
   over_pages = ⊎_elim (λ yes. pages_then o.placing.pages (gone_pages (o.ended yes).gone)) (λ not. (only not).pages) (placed_or_not answer)
 
   over_wears : CountsErases (seen s) (seen n)
@@ -186,7 +186,7 @@ module _ (answer : Named) (place stamp : ℕ) (x : Option Held) (s n : Kept) (is
   over_kept k = ⊎_elim (λ yes. gone_kept (o.ended yes).gone (o.placing.kept k)) (λ not. (only not).kept k) (placed_or_not answer)
 
   pub over_spare : {M : Type 0} {clock : M → ℕ} {contents : M → Image} {left : M → ℕ → Image → Type 0} {tag : Tag} {number : ℕ} {main : List ℕ} {a b : M} → Crashes clock contents left (seen s) tag number main a b answer
-      → HasSpare (contents a) (seen s) → HasSpare (contents b) (seen n)
+      → CanSpareBlock (contents a) (seen s) → CanSpareBlock (contents b) (seen n)
   over_spare {contents = contents} {a = a} {b = b} k spare = ⊎_elim
       (λ yes. ⊎_elim
       (λ same. gone_spare (o.ended yes).gone (ended_was (o.ended yes) (place_within yes)) (contents b)
@@ -196,7 +196,7 @@ module _ (answer : Named) (place stamp : ℕ) (x : Option Held) (s n : Kept) (is
       (λ not. placed_spare answer stamp x s n is tied table few now tied_now table_now (only not) k spare)
       (placed_or_not answer)
 
-  over_writes : Writes stamp answer (seen s) (seen n)
+  over_writes : WritesSegment stamp answer (seen s) (seen n)
   over_writes = record {
     pages = over_pages;
     placed = o.placing.placed;
@@ -210,7 +210,7 @@ module _ (answer : Named) (place stamp : ℕ) (x : Option Held) (s n : Kept) (is
   }
 
 -- what an overwrite does, where the page that it placed holds this owner and this number
-pub over_replaces : (answer : Named) (place : ℕ) (tag : Tag) (stamp : ℕ) (s n : Kept) → IsFormed s → IsTied s → IsTable s.blocks → HasFewPairs (seen s) → IsFormed n → IsTied n → IsTable n.blocks
+pub over_replaces : (answer : Named) (place : ℕ) (tag : Tag) (stamp : ℕ) (s n : Kept) → IsPhysicalFormed s → IsTied s → IsBlockTable s.blocks → HasFewPairs (seen s) → IsPhysicalFormed n → IsTied n → IsBlockTable n.blocks
     → WritesOver place stamp (λ at. set s.held.items at.name (Some (record { tag = tag; stamp = stamp }))) answer (seen s) (seen n) → ReplacesPage place tag stamp answer (seen s) (seen n)
 over_replaces answer place tag stamp s n is tied table few now tied_now table_now o =
     let x : Option Held = Some (record { tag = tag; stamp = stamp }) in

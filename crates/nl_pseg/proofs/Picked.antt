@@ -7,7 +7,7 @@ use Rattle.nl_blocks.specs.declared.states.BlockState.TheVariants as the
 use Rattle.nl_blocks.specs.Table.{BlockRow, HasBlock, block_at, dead_count, is_sealed_state, no_row}
 use Rattle.nl_victim.specs.Victims.{IsColdest, IsLevel, IsMostDead, IsSealed}
 use Rattle.nl_pseg.specs.Cleaning.{IsChosen, NoneChosen}
-use Rattle.nl_pseg.specs.Segment.{Row, is_sealed, erasures}
+use Rattle.nl_pseg.specs.Segment.{CleaningRow, is_sealed, erasures}
 use Rattle.nl_pseg_blocks.specs.Uses.{Use}
 use Rattle.nl_pseg.specs.Seen.{row_of, seen}
 use Rattle.nl_pseg.specs.Kept.{Kept}
@@ -48,7 +48,7 @@ cond_zero false n is = refl
 
 module _ (s : Kept) where
   sealed_here : (block : ℕ) → HasBlock s.blocks block → is_sealed (seen s) block ≡ is_sealed_state (block_at s.blocks block).state
-  sealed_here block has = ap (λ (r : Row). is_sealed_state r.state) (known_here s.blocks block has)
+  sealed_here block has = ap (λ (r : CleaningRow). is_sealed_state r.state) (known_here s.blocks block has)
 
   to_sealed : (block : ℕ) → (seen s).first ≤ block → block < (seen s).blocks → is_sealed (seen s) block ≡ true → IsSealed s.blocks block
   to_sealed block from below is = let has : HasBlock s.blocks block = record { from = from; below = below } in (has, sym (sealed_here block has) ∙ is)

@@ -12,11 +12,11 @@ use Rattle.nl_field.specs.declared.pointer.Tag.{Tag}
 use Rattle.nl_nand.specs.declared.answers.WriteAnswer.TheVariants as wrote
 use Rattle.nl_nand.proofs.Crashes.{turns_later, weaken}
 use Rattle.nl_pseg.specs.Answers.{IfPlaced, IsPlaced}
-use Rattle.nl_pseg.specs.Effects.{Crashes, Keeps, Places, Programmed, Takes}
+use Rattle.nl_pseg.specs.Effects.{Crashes, PreservesSegment, PlacesOnImage, PageIsProgrammed, TakesImagePage}
 use Rattle.nl_pseg_pages.specs.Pages.{page_with, shown_by}
-use Rattle.nl_pseg.specs.Segment.{Physical, IsClean, IsDead, IsNext, IsSpent, is_waiting, IsPhysicalOf, KeepsBlock, SameNames, SamePages, held_at, is_free, is_kept, is_soiled, room, soiled, wear_of}
+use Rattle.nl_pseg.specs.Segment.{Physical, IsClean, IsDead, IsNextToProgram, IsSpent, is_waiting, IsPhysicalOf, KeepsBlock, SameNames, SameBlocksAndPages, held_at, is_free, is_kept, is_soiled, room, soiled, wear_of}
 use Rattle.nl_pseg_blocks.specs.Uses.{Use}
-use Rattle.nl_pseg.specs.Steps.{IsAlone, IsOpened, IsUsed, Opening, OpeningOn, Placing}
+use Rattle.nl_pseg.specs.Steps.{IsAlone, OpensFreeBlock, UsesNextPage, OpensForProgram, OpeningOn, Placing}
 use Rattle.nl_pseg.specs.Writes.{ProgramsOn, WritesOn}
 use Rattle.nl_pseg.specs.declared.held.Held.{Held}
 use Rattle.nl_pseg.proofs.Images.{keeps_then, takes_then}
@@ -47,7 +47,7 @@ names_then first second = record {
 }
 
 -- a block is kept still
-pub kept_same : {seg new : Physical} → SamePages seg new → SameNames seg new → ((block : ℕ) → is_kept new block ≡ is_kept seg block) → KeepsBlock seg → KeepsBlock new
+pub kept_same : {seg new : Physical} → SameBlocksAndPages seg new → SameNames seg new → ((block : ℕ) → is_kept new block ≡ is_kept seg block) → KeepsBlock seg → KeepsBlock new
 kept_same same names kept k = record {
   block = k.block;
   from = subst (λ n. n ≤ k.block) (sym same.same_first) k.from;
@@ -56,7 +56,7 @@ kept_same same names kept k = record {
 }
 
 -- the next page was used
-module _ {x : Option Held} {seg new : Physical} (u : IsUsed x seg new) (some : 0 < seg.left) where
+module _ {x : Option Held} {seg new : Physical} (u : UsesNextPage x seg new) (some : 0 < seg.left) where
   pub used_spent : IsSpent seg new
   used_spent =
       let blocks : (new.free - 1) * new.size ≡ (seg.free - 1) * seg.size = (λ i. (u.free i - 1) * u.pages.same_size i) in
@@ -74,13 +74,13 @@ module _ {x : Option Held} {seg new : Physical} (u : IsUsed x seg new) (some : 0
   pub used_waits : (block : ℕ) → is_waiting new block ≡ is_waiting seg block
   used_waits block = ap waits (u.uses block)
 
-  pub used_next : (p : ℕ) → IsNext new p → IsNext seg p
+  pub used_next : (p : ℕ) → IsNextToProgram new p → IsNextToProgram seg p
   used_next p next = let a = u.next in let l = u.left in (omega (arith, a, next.0), omega (arith, a, l, next.0, next.1))
 
   pub used_kept : KeepsBlock seg → KeepsBlock new
   used_kept k = kept_same u.pages u.names (λ b. ap (λ (w : Use). w.is_kept) (u.uses b)) k
 
-pub used_failed : {seg new : Physical} (stamp : ℕ) (now : Pointer → List (Option Held)) → IsUsed None seg new → 0 < seg.left → held_at seg seg.next ≡ None → Placing stamp now the.Fault seg new
+pub used_failed : {seg new : Physical} (stamp : ℕ) (now : Pointer → List (Option Held)) → UsesNextPage None seg new → 0 < seg.left → held_at seg seg.next ≡ None → Placing stamp now the.Fault seg new
 used_failed {seg} {new} stamp now u some dead = record {
   pages = u.pages;
   placed = tt;
@@ -96,7 +96,7 @@ used_failed {seg} {new} stamp now u some dead = record {
   names = u.names;
 }
 
-pub used_placed : {h : Held} {seg new : Physical} (page stamp : ℕ) → page ≡ seg.next → IsUsed (Some h) seg new → 0 < seg.left → IsDead seg page
+pub used_placed : {h : Held} {seg new : Physical} (page stamp : ℕ) → page ≡ seg.next → UsesNextPage (Some h) seg new → 0 < seg.left → IsDead seg page
     → Placing stamp (λ at. set seg.held at.name (Some h)) (the.Placed (record { name = page; stamp = stamp })) seg new
 used_placed {h} {seg} {new} page stamp at u some dead = record {
   pages = u.pages;
@@ -114,7 +114,7 @@ used_placed {h} {seg} {new} page stamp at u some dead = record {
 }
 
 -- a Free block was opened before
-module _ {block : ℕ} {seg mid : Physical} (o : IsOpened block seg mid) where
+module _ {block : ℕ} {seg mid : Physical} (o : OpensFreeBlock block seg mid) where
   pub opened_dead : (p : ℕ) → IsDead mid p → IsDead seg p
   opened_dead p dead = record {
     within = within_same p (range_of (pages_back o.pages)) dead.within;
@@ -211,31 +211,31 @@ module _ {block : ℕ} {seg mid : Physical} (o : IsOpened block seg mid) where
       ready = let left = o.left in omega (arith, left, some)
 
 -- the page was placed after a block was opened, or in the one that is written to
-pub placing_then : {seg mid new : Physical} {answer : Named} (stamp : ℕ) (h : Held) → 0 < seg.size → Opening wrote.Done seg mid → Placing stamp (λ at. set mid.held at.name (Some h)) answer mid new
+pub placing_then : {seg mid new : Physical} {answer : Named} (stamp : ℕ) (h : Held) → 0 < seg.size → OpensForProgram wrote.Done seg mid → Placing stamp (λ at. set mid.held at.name (Some h)) answer mid new
     → Placing stamp (λ at. set seg.held at.name (Some h)) answer seg new
 placing_then {seg} {mid} {new} {answer} stamp h some (inl same) p = subst (λ (q : Physical). Placing stamp (λ at. set q.held at.name (Some h)) answer q new) same.1 p
 placing_then {seg} {mid} {new} {answer} stamp h some (inr o) p = opened_placing o.1 stamp h some p
 
-pub opening_pages : {seg mid : Physical} → Opening wrote.Done seg mid → SamePages seg mid
-opening_pages {seg} {mid} (inl same) = subst (SamePages seg) (sym same.1) (record { same_first = refl; same_blocks = refl; same_size = refl; same_wear = λ b. refl })
+pub opening_pages : {seg mid : Physical} → OpensForProgram wrote.Done seg mid → SameBlocksAndPages seg mid
+opening_pages {seg} {mid} (inl same) = subst (SameBlocksAndPages seg) (sym same.1) (record { same_first = refl; same_blocks = refl; same_size = refl; same_wear = λ b. refl })
 opening_pages (inr o) = o.1.pages
 
-pub opening_dead : {seg mid : Physical} → Opening wrote.Done seg mid → (p : ℕ) → IsDead mid p → IsDead seg p
+pub opening_dead : {seg mid : Physical} → OpensForProgram wrote.Done seg mid → (p : ℕ) → IsDead mid p → IsDead seg p
 opening_dead (inl same) p dead = subst (λ (q : Physical). IsDead q p) same.1 dead
 opening_dead (inr o) p dead = opened_dead o.1 p dead
 
 -- the same value on a page
-value : {seg mid : Physical} → Opening wrote.Done seg mid → (tag : Tag) (stamp : ℕ) (main : List ℕ) (page : ℕ) → written (page_with main tag stamp (wear_of mid (page / mid.size))) ≡ written (page_with main tag stamp (wear_of seg (page / seg.size)))
+value : {seg mid : Physical} → OpensForProgram wrote.Done seg mid → (tag : Tag) (stamp : ℕ) (main : List ℕ) (page : ℕ) → written (page_with main tag stamp (wear_of mid (page / mid.size))) ≡ written (page_with main tag stamp (wear_of seg (page / seg.size)))
 value {seg} {mid} opening tag stamp main page =
     let pages = opening_pages opening in
     ap (λ w. written (page_with main tag stamp w)) (ap (λ n. wear_of mid (page / n)) pages.same_size ∙ pages.same_wear (page / seg.size))
 
 -- what that does to the medium
-module _ {M : Type 0} {clock : M → ℕ} {contents : M → Image} {left : M → ℕ → Image → Type 0} {seg mid : Physical} {a b : M} (opening : Opening wrote.Done seg mid) (on : OpeningOn clock contents left wrote.Done seg mid a b)
+module _ {M : Type 0} {clock : M → ℕ} {contents : M → Image} {left : M → ℕ → Image → Type 0} {seg mid : Physical} {a b : M} (opening : OpensForProgram wrote.Done seg mid) (on : OpeningOn clock contents left wrote.Done seg mid a b)
     (tag : Tag) (stamp : ℕ) (main : List ℕ) (answer : Named) where
   programmed_then : (d : M) → IfPlaced answer (λ at. IsDead mid at.name) → IfPlaced answer (λ at. at.name ≡ mid.next)
       → IfPlaced answer (λ at. IsAlone at.name (written (page_with main tag stamp (wear_of mid (at.name / mid.size)))) (contents b) (contents d))
-      → IfPlaced answer (λ at. Programmed seg at.name (written (page_with main tag stamp (wear_of seg (at.name / seg.size)))) (contents a) (contents d))
+      → IfPlaced answer (λ at. PageIsProgrammed seg at.name (written (page_with main tag stamp (wear_of seg (at.name / seg.size)))) (contents a) (contents d))
   programmed_then d dead next alone = if_placed_three answer (λ at dead_is next_is alone_is. record {
     dead = opening_dead opening at.name dead_is;
     has = alone_is.has ∙ value opening tag stamp main at.name;
@@ -251,16 +251,16 @@ module _ {M : Type 0} {clock : M → ℕ} {contents : M → Image} {left : M →
     page = k.page;
     named = k.named;
     either = ⊎_elim (λ x. inl (keeps_then (opening_dead opening) on.keeps x)) (λ x. inr (takes_on (contents d) x)) k.either;
-    crash = turns_later (IsPlaced answer) (λ c. Keeps seg (contents a) c) (λ c. Places seg k.page tag stamp main (contents a) c) on.crash
-        (weaken (Turns (IsPlaced answer) (clock d) (λ c. Keeps mid (contents b) c) (λ c. Places mid k.page tag stamp main (contents b) c))
-        (Turns (IsPlaced answer) (clock d) (λ c. Keeps seg (contents a) c) (λ c. Places seg k.page tag stamp main (contents a) c)) k.crash
+    crash = turns_later (IsPlaced answer) (λ c. PreservesSegment seg (contents a) c) (λ c. PlacesOnImage seg k.page tag stamp main (contents a) c) on.crash
+        (weaken (Turns (IsPlaced answer) (clock d) (λ c. PreservesSegment mid (contents b) c) (λ c. PlacesOnImage mid k.page tag stamp main (contents b) c))
+        (Turns (IsPlaced answer) (clock d) (λ c. PreservesSegment seg (contents a) c) (λ c. PlacesOnImage seg k.page tag stamp main (contents a) c)) k.crash
         (λ m c from to is. ⊎_elim (λ x. inl (x.0, keeps_then (opening_dead opening) on.keeps x.1)) (λ x. inr (takes_on c x)) is))
         strict;
   }
     where
-      takes_on : (c : Image) → Places mid k.page tag stamp main (contents b) c → Places seg k.page tag stamp main (contents a) c
+      takes_on : (c : Image) → PlacesOnImage mid k.page tag stamp main (contents b) c → PlacesOnImage seg k.page tag stamp main (contents a) c
       takes_on c x = record {
-        takes = subst (λ v. Takes seg k.page v (contents a) c) (value opening tag stamp main k.page) (takes_then (opening_dead opening) on.keeps x.takes);
+        takes = subst (λ v. TakesImagePage seg k.page v (contents a) c) (value opening tag stamp main k.page) (takes_then (opening_dead opening) on.keeps x.takes);
         shows = sym (ap shown_by (value opening tag stamp main k.page)) ∙ x.shows;
       }
 
@@ -270,7 +270,7 @@ module _ {M : Type 0} {clock : M → ℕ} {contents : M → Image} {left : M →
   writes_then {new} {d} dead next strict p = record { segment = p.segment; programmed = programmed_then d dead next p.alone; crash = crashes_then strict p.crash }
 
 -- an erase failed
-pub opening_failed : {seg new : Physical} (stamp : ℕ) (now : Pointer → List (Option Held)) → Opening wrote.Failed seg new → Placing stamp now the.Fault seg new
+pub opening_failed : {seg new : Physical} (stamp : ℕ) (now : Pointer → List (Option Held)) → OpensForProgram wrote.Failed seg new → Placing stamp now the.Fault seg new
 opening_failed {seg} {new} stamp now x = record {
   pages = x.0;
   placed = tt;
@@ -296,7 +296,7 @@ failed_on {M} {clock} {contents} {left} {seg} {new} {a} {b} tag stamp main on = 
     page = 0;
     named = tt;
     either = inl on.keeps;
-    crash = weaken (λ m c. Keeps seg (contents a) c) (Turns (IsPlaced the.Fault) (clock b) (λ c. Keeps seg (contents a) c) (λ c. Places seg 0 tag stamp main (contents a) c)) on.crash
+    crash = weaken (λ m c. PreservesSegment seg (contents a) c) (Turns (IsPlaced the.Fault) (clock b) (λ c. PreservesSegment seg (contents a) c) (λ c. PlacesOnImage seg 0 tag stamp main (contents a) c)) on.crash
         (λ m c from to k. inl ((λ placed. absurd placed), k));
   };
 }

@@ -5,10 +5,10 @@ use Rattle.std.proofs.lemmas.List.{get_or-set_other}
 use Rattle.nl_field.specs.Page.{Image, erased, page_at}
 use Rattle.nl_blocks.specs.declared.states.BlockState.TheVariants.{Active}
 use Rattle.nl_blocks.specs.Table.{Table, HasBlock}
-use Rattle.nl_pseg.specs.Segment.{Physical, IsNext, IsPhysicalOf, TakenAsErased, held_at, is_kept, is_soiled}
-use Rattle.nl_pseg.specs.Seen.{IsFormed, seen}
+use Rattle.nl_pseg.specs.Segment.{Physical, IsNextToProgram, IsPhysicalOf, TakenAsErased, held_at, is_kept, is_soiled}
+use Rattle.nl_pseg.specs.Seen.{IsPhysicalFormed, seen}
 use Rattle.nl_pseg.specs.Steps.{IsReadied, aimed_at}
-use Rattle.nl_pseg_blocks.specs.Uses.{Use, use_in, Restated, SameUse}
+use Rattle.nl_pseg_blocks.specs.Uses.{Use, use_in, SetsUse, SameUse}
 use Rattle.nl_pseg.specs.declared.held.Held.{Held}
 use Rattle.nl_pseg.specs.Kept.{Kept}
 use Rattle.nl_pseg.proofs.Forms.{formed_restated, same_pages, same_unspent}
@@ -39,8 +39,8 @@ still_readied seg = record {
   clean = λ clean. clean;
 }
 
-module _ (s : Kept) (is : IsFormed s) (block : ℕ) (has : HasBlock s.blocks block) (free : (use_in s.blocks block).is_free ≡ true) where
-  free_next : (p : ℕ) → IsNext (seen s) p → p / s.blocks.size ≡ block → ⊥
+module _ (s : Kept) (is : IsPhysicalFormed s) (block : ℕ) (has : HasBlock s.blocks block) (free : (use_in s.blocks block).is_free ≡ true) where
+  free_next : (p : ℕ) → IsNextToProgram (seen s) p → p / s.blocks.size ≡ block → ⊥
   free_next p next at =
       let fits = is.used_fits in
       let room : s.used < s.blocks.size = omega (arith, next.0, next.1, fits) in
@@ -49,13 +49,13 @@ module _ (s : Kept) (is : IsFormed s) (block : ℕ) (has : HasBlock s.blocks blo
   pub free_dead : (p : ℕ) (h : Held) → held_at (seen s) p ≡ Some h → p / s.blocks.size ≡ block → ⊥
   free_dead p h held at = true≢false (sym (free_kept s.blocks block free) ∙ (ap (is_kept (seen s)) (sym at) ∙ (is.places.each p h held).in_use))
 
-  pub taken_formed : {wear : ℕ} (t : Table) → Restated block false wear s.blocks t → IsFormed (record s { blocks = t })
+  pub taken_formed : {wear : ℕ} (t : Table) → SetsUse block false wear s.blocks t → IsPhysicalFormed (record s { blocks = t })
   taken_formed {wear} t r = formed_restated s t block wear false is r
       (λ room at. free_other s.blocks block s.active Active has free refl (is.taken room) (sym at))
       (λ same. absurd (true≢false (sym same)))
 
   -- copies are programmed in it
-  pub aimed_segment : {wear : ℕ} (t : Table) → Restated block false wear s.blocks t → {old c : Image} → IsPhysicalOf old (seen s) → ((p : ℕ) → (p / s.blocks.size ≡ block → ⊥) → page_at c p ≡ page_at old p) → ((p : ℕ) → p / s.blocks.size ≡ block → page_at c p ≡ erased)
+  pub aimed_segment : {wear : ℕ} (t : Table) → SetsUse block false wear s.blocks t → {old c : Image} → IsPhysicalOf old (seen s) → ((p : ℕ) → (p / s.blocks.size ≡ block → ⊥) → page_at c p ≡ page_at old p) → ((p : ℕ) → p / s.blocks.size ≡ block → page_at c p ≡ erased)
       → IsPhysicalOf c (aimed_at (seen (record s { blocks = t })) block)
   aimed_segment {wear} t r {old} {c} was others here = record {
     holds = λ p h held. shows_same h (others p (free_dead p h held)) (was.holds p h held);

@@ -6,14 +6,14 @@ use Rattle.std.proofs.lemmas.Option.{none-some, same_Some}
 use Rattle.std.specs.Vec.{with_item}
 use Rattle.nl_blocks.specs.declared.states.BlockState.{BlockState}
 use Rattle.nl_blocks.specs.declared.states.BlockState.TheVariants.{Active, Free, Retired, Target, Victim}
-use Rattle.nl_blocks.specs.Table.{BlockRow, Table, HasBlock, IsTable, after_erase, block_at, erased_row, free_count, is_free_state, with_block, worn}
+use Rattle.nl_blocks.specs.Table.{BlockRow, Table, HasBlock, IsBlockTable, after_erase, block_at, erased_row, free_count, is_free_state, with_block, worn}
 use Rattle.nl_blocks.proofs.TableLaws.{block_at-with_block_other, block_at-with_block_same, sum_by-with_block}
 use Rattle.nl_remap.specs.Table.{IsOld}
-use Rattle.nl_pseg.specs.Cleaning.{Erases}
+use Rattle.nl_pseg.specs.Cleaning.{ErasesBlock}
 use Rattle.nl_pseg_names.specs.OldNames.{names_among}
 use Rattle.nl_pseg.specs.Segment.{held_at, row_in}
-use Rattle.nl_pseg.specs.Seen.{HasPhases, IsFormed, IsNamed, IsTied, row_of, seen}
-use Rattle.nl_pseg.specs.Space.{gain_of, left_of}
+use Rattle.nl_pseg.specs.Seen.{HasPhases, IsPhysicalFormed, IsNamed, IsTied, row_of, seen}
+use Rattle.nl_pseg.specs.Space.{gain_of, left_in_victim}
 use Rattle.nl_pseg_blocks.specs.Uses.{Use, is_kept_state, use_in, use_of, SameFill, SameMarks, SameNumbers}
 use Rattle.nl_pseg.specs.Kept.{Kept}
 use Rattle.nl_pseg.proofs.Forms.{formed_marks, formed_table}
@@ -55,7 +55,7 @@ retired_after (suc n) k e = names_same e
     names_same : Retired (suc n) ≡ Retired k → suc n ≡ k
     names_same same = ap names_in same
 
-module _ (s : Kept) (is : IsFormed s) (tied : IsTied s) (table : IsTable s.blocks) (block : ℕ) (named_is : s.victim ≡ Some block) (dead : (p : ℕ) → p / s.blocks.size ≡ block → held_at (seen s) p ≡ None)
+module _ (s : Kept) (is : IsPhysicalFormed s) (tied : IsTied s) (table : IsBlockTable s.blocks) (block : ℕ) (named_is : s.victim ≡ Some block) (dead : (p : ℕ) → p / s.blocks.size ≡ block → held_at (seen s) p ≡ None)
     (n : ℕ) (counted : n ≡ names_among s.blocks.size block s.names.pairs) where
   abbrev row : BlockRow
   row = erased_row (block_at s.blocks block) n
@@ -92,13 +92,13 @@ module _ (s : Kept) (is : IsFormed s) (tied : IsTied s) (table : IsTable s.block
   pub released_fill : SameFill s.blocks t
   released_fill = fill_shut s.blocks block row has (shut_victim (block_at s.blocks block).state was) (shut_after n)
 
-  formed_blocks : IsFormed (record s { blocks = t })
+  formed_blocks : IsPhysicalFormed (record s { blocks = t })
   formed_blocks = formed_table s is t numbers
       (λ room. others s.active is.active_in (other s.active Active (λ e. cc e) (is.taken room)) ∙ is.taken room)
       (λ p h held. ap (λ (u : Use). u.is_kept) (use_other s.blocks block (p / s.blocks.size) row has (λ at. none-some h (sym (dead p at) ∙ held))) ∙ (is.places.each p h held).in_use)
       marks
 
-  pub released_formed : IsFormed (record s { blocks = t; soiled = with_item s.soiled block None; victim = None })
+  pub released_formed : IsPhysicalFormed (record s { blocks = t; soiled = with_item s.soiled block None; victim = None })
   released_formed =
       let x = formed_marks (record s { blocks = t }) block None formed_blocks in
       record { some = x.some; numbers = x.numbers; pages = x.pages; marks = x.marks; active_in = x.active_in; used_fits = x.used_fits; taken = x.taken; places = record { each = λ p h held. let w = x.places.each p h held in record { within = w.within; in_use = w.in_use; behind = w.behind; spelled = w.spelled } }; marked = x.marked }
@@ -200,10 +200,10 @@ module _ (s : Kept) (is : IsFormed s) (tied : IsTied s) (table : IsTable s.block
   was_gain : gain_of (seen s) ≡ s.blocks.size
   was_gain = ap (λ v. gain_of (record (seen s) { victim = v })) named_is ∙ all_dead
 
-  was_left : left_of (seen s) ≡ 0
-  was_left = let d = all_dead in ap (λ v. left_of (record (seen s) { victim = v })) named_is ∙ omega (arith, d)
+  was_left : left_in_victim (seen s) ≡ 0
+  was_left = let d = all_dead in ap (λ v. left_in_victim (record (seen s) { victim = v })) named_is ∙ omega (arith, d)
 
-  pub released : Erases block (seen s) (seen (record s { blocks = t; soiled = with_item s.soiled block None; victim = None }))
+  pub released : ErasesBlock block (seen s) (seen (record s { blocks = t; soiled = with_item s.soiled block None; victim = None }))
   released = record {
     tables = record { same_first = refl; same_blocks = ap (λ k. s.blocks.first + k) numbers.same_count; same_size = refl; same_held = refl; same_pairs = refl; same_room = refl };
     was = named_is;

@@ -3,10 +3,10 @@ use Rattle.std.proofs.Common.{◌≡◌, ℕ, zero, suc, ◌+◌, ◌-◌, ◌<�
 use Rattle.std.proofs.lemmas.Bool.{cond-true, le-leb}
 use Rattle.std.proofs.lemmas.List.{get_or-map, length-map}
 use Rattle.std.proofs.lemmas.List.Sums.{count_by-le-length, sum_by-cons}
-use Rattle.nl_blocks.specs.Table.{Table, HasBlock, IsTable, block_at, dead_count, is_dead, is_sealed_state}
+use Rattle.nl_blocks.specs.Table.{Table, HasBlock, IsBlockTable, block_at, dead_count, is_dead, is_sealed_state}
 use Rattle.nl_blocks.specs.Table.{no_row as no_block}
 use Rattle.nl_blocks.proofs.TableProofs.{row_size}
-use Rattle.nl_pseg.specs.Segment.{Row, no_row, row_in}
+use Rattle.nl_pseg.specs.Segment.{CleaningRow, no_row, row_in}
 use Rattle.nl_pseg.specs.Seen.{row_of}
 use Rattle.nl_pseg_blocks.specs.Uses.{Use, no_use, use_in, use_of, SameNumbers, SameUse}
 use Rattle.nl_pseg_blocks.proofs.Tables.{use_from}
@@ -18,10 +18,10 @@ abbrev pub waits : Use → Bool
 waits u = u.is_kept && not u.is_free
 
 -- the dead pages of a Sealed block
-abbrev pub to_gain : Row → ℕ
+abbrev pub to_gain : CleaningRow → ℕ
 to_gain row = cond (is_sealed_state row.state) row.dead 0
 
-row_from : (first : ℕ) (rows : List Row) (block : ℕ) → first ≤ block → row_in first rows block ≡ get_or rows (block - first) no_row
+row_from : (first : ℕ) (rows : List CleaningRow) (block : ℕ) → first ≤ block → row_in first rows block ≡ get_or rows (block - first) no_row
 unfolding row_in
 row_from first rows block from = cond-true (nat_le first block) (get_or rows (block - first) no_row) no_row (le-leb first block from)
 
@@ -29,9 +29,9 @@ pub known_here : (t : Table) (block : ℕ) → HasBlock t block → row_in t.fir
 known_here t block has = row_from t.first (map row_of t.blocks) block has.from ∙ get_or-map row_of t.blocks (block - t.first) no_block no_row (omega (arith, has.from, has.below))
 
 pub dead_here : (t : Table) (block : ℕ) → HasBlock t block → (row_in t.first (map row_of t.blocks) block).dead ≡ dead_count (block_at t block)
-dead_here t block has = ap (λ (r : Row). r.dead) (known_here t block has)
+dead_here t block has = ap (λ (r : CleaningRow). r.dead) (known_here t block has)
 
-pub dead_few : (t : Table) → IsTable t → (block : ℕ) → HasBlock t block → dead_count (block_at t block) ≤ t.size
+pub dead_few : (t : Table) → IsBlockTable t → (block : ℕ) → HasBlock t block → dead_count (block_at t block) ≤ t.size
 dead_few t is block has = let n = row_size t is block has in let l = count_by-le-length is_dead (block_at t block).pages in omega (arith, n, l)
 
 -- the same sum over lists of the same weights

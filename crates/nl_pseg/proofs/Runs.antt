@@ -5,11 +5,11 @@ use Rattle.std.proofs.lemmas.List.{get_or-map, get_or-set_same, get_or-set_other
 use Rattle.std.proofs.lemmas.List.Sums.{sum_by-cons}
 use Rattle.std.proofs.lemmas.Nat.{div-mul-add, mod-mul-add}
 use Rattle.nl_blocks.specs.declared.states.Page.{Page}
-use Rattle.nl_blocks.specs.Table.{Table, HasBlock, IsTable, block_at, dead_count, is_dead, is_dead_state, new_page, page_at}
+use Rattle.nl_blocks.specs.Table.{Table, HasBlock, IsBlockTable, block_at, dead_count, is_dead, is_dead_state, new_page, page_at}
 use Rattle.nl_blocks.specs.Table.{no_row as no_block}
 use Rattle.nl_blocks.proofs.TableProofs.{row_size}
-use Rattle.nl_pseg.specs.Segment.{Row, no_row, row_in}
-use Rattle.nl_pseg.specs.Seen.{IsFormed, row_of, seen, state_for}
+use Rattle.nl_pseg.specs.Segment.{CleaningRow, no_row, row_in}
+use Rattle.nl_pseg.specs.Seen.{IsPhysicalFormed, row_of, seen, state_for}
 use Rattle.nl_pseg.specs.Space.{dead_in, live_in}
 use Rattle.nl_pseg.specs.declared.held.Held.{Held}
 use Rattle.nl_pseg.specs.Kept.{Kept}
@@ -93,7 +93,7 @@ dead_run (page ∷ pages) held at marked =
     let rest = dead_run pages held (suc at) (λ k less. marked (suc k) (omega (arith, less)) ∙ ap (λ j. state_for (get_or held j None)) (omega arith)) in
     omega (arith, e, here, sum, rest)
 
-row_from : (first : ℕ) (rows : List Row) (block : ℕ) → first ≤ block → row_in first rows block ≡ get_or rows (block - first) no_row
+row_from : (first : ℕ) (rows : List CleaningRow) (block : ℕ) → first ≤ block → row_in first rows block ≡ get_or rows (block - first) no_row
 unfolding row_in
 row_from first rows block from = cond-true (nat_le first block) (get_or rows (block - first) no_row) no_row (le-leb first block from)
 
@@ -101,7 +101,7 @@ row_from first rows block from = cond-true (nat_le first block) (get_or rows (bl
 pub row_here : (t : Table) (block : ℕ) → HasBlock t block → row_in t.first (map row_of t.blocks) block ≡ row_of (block_at t block)
 row_here t block has = row_from t.first (map row_of t.blocks) block has.from ∙ get_or-map row_of t.blocks (block - t.first) no_block no_row (omega (arith, has.from, has.below))
 
-module _ (s : Kept) (is : IsFormed s) (table : IsTable s.blocks) where
+module _ (s : Kept) (is : IsPhysicalFormed s) (table : IsBlockTable s.blocks) where
   -- the pages of a block that are not live, and those that are
   pub dead_is : (block : ℕ) → HasBlock s.blocks block → dead_count (block_at s.blocks block) + run s.held.items (block * s.blocks.size) s.blocks.size ≡ s.blocks.size
   dead_is block has =
@@ -120,6 +120,6 @@ module _ (s : Kept) (is : IsFormed s) (table : IsTable s.blocks) where
 
   pub dead_seen : (block : ℕ) → HasBlock s.blocks block → dead_in (seen s) block + run s.held.items (block * s.blocks.size) s.blocks.size ≡ s.blocks.size
   dead_seen block has =
-      let e : dead_in (seen s) block ≡ dead_count (block_at s.blocks block) = ap (λ (r : Row). r.dead) (row_here s.blocks block has) in
+      let e : dead_in (seen s) block ≡ dead_count (block_at s.blocks block) = ap (λ (r : CleaningRow). r.dead) (row_here s.blocks block has) in
       let sum = dead_is block has in
       omega (arith, e, sum)

@@ -4,10 +4,10 @@ use Rattle.std.proofs.lemmas.Bool.{cases_eq, cases_Bool, cases_lt, leb-true, tru
 use Rattle.std.proofs.lemmas.List.{get_or-set_same, get_or-set_other, get_or_past, get_or_read}
 use Rattle.std.proofs.lemmas.Option.{none-some, same_Some}
 use Rattle.nl_field.specs.Spelling.{is_stamp}
-use Rattle.nl_pseg.specs.Segment.{Physical, IsNext, IsNextCopy, InSegment, IsUnspent, SamePages, TakenAsErased, held_at, is_kept, is_soiled, stamp_in, soiled}
+use Rattle.nl_pseg.specs.Segment.{Physical, IsNextToProgram, IsNextCopy, InSegment, IsUnspent, SameBlocksAndPages, TakenAsErased, held_at, is_kept, is_soiled, stamp_in, soiled}
 use Rattle.nl_pseg_blocks.specs.Uses.{Use, no_use, use_at}
-use Rattle.nl_pseg.specs.Seen.{ArePlaces, IsPlace}
-use Rattle.nl_pseg.specs.Steps.{IsUsed, IsOpened, SameRange}
+use Rattle.nl_pseg.specs.Seen.{AreLivePlaces, IsLivePlace}
+use Rattle.nl_pseg.specs.Steps.{UsesNextPage, OpensFreeBlock, SameRange}
 use Rattle.nl_pseg.specs.declared.held.Held.{Held}
 use Rattle.nl_pseg.proofs.Numbers.{block_of}
 use Rattle.nl_pseg_blocks.proofs.Tables.{use_from, use_before}
@@ -48,21 +48,21 @@ set_held held page x within p h is = elim (cases_eq p page) [
 ]
 
 -- the places are those of pages that are not given out and not Free
-pub dead_kept : (seg : Physical) → ArePlaces seg → (p : ℕ) → is_kept seg (p / seg.size) ≡ true → held_at seg p ≡ None
+pub dead_kept : (seg : Physical) → AreLivePlaces seg → (p : ℕ) → is_kept seg (p / seg.size) ≡ true → held_at seg p ≡ None
 dead_kept seg are p free = at (held_at seg p) refl
   where
     at : (x : Option Held) → held_at seg p ≡ x → held_at seg p ≡ None
     at None is = is
     at (Some h) is = absurd (true≢false (sym free ∙ (are.each p h is).in_use))
 
-pub dead_next : (seg : Physical) → ArePlaces seg → (p : ℕ) → IsNext seg p → held_at seg p ≡ None
+pub dead_next : (seg : Physical) → AreLivePlaces seg → (p : ℕ) → IsNextToProgram seg p → held_at seg p ≡ None
 dead_next seg are p next = at (held_at seg p) refl
   where
     at : (x : Option Held) → held_at seg p ≡ x → held_at seg p ≡ None
     at None is = is
     at (Some h) is = absurd ((are.each p h is).behind next)
 
-pub range_of : {old new : Physical} → SamePages old new → SameRange old new
+pub range_of : {old new : Physical} → SameBlocksAndPages old new → SameRange old new
 range_of same = record { range_first = same.same_first; range_blocks = same.same_blocks; range_size = same.same_size }
 
 pub within_same : {old new : Physical} (p : ℕ) → SameRange old new → InSegment old p → InSegment new p
@@ -71,10 +71,10 @@ within_same {old} {new} p same within =
     let high : new.blocks * new.size ≡ old.blocks * old.size = (λ i. same.range_blocks i * same.range_size i) in
     (omega (arith, low, within.0), omega (arith, high, within.1))
 
-pub pages_back : {old new : Physical} → SamePages old new → SamePages new old
+pub pages_back : {old new : Physical} → SameBlocksAndPages old new → SameBlocksAndPages new old
 pages_back same = record { same_first = sym same.same_first; same_blocks = sym same.same_blocks; same_size = sym same.same_size; same_wear = λ block. sym (same.same_wear block) }
 
-pub pages_then : {a b c : Physical} → SamePages a b → SamePages b c → SamePages a c
+pub pages_then : {a b c : Physical} → SameBlocksAndPages a b → SameBlocksAndPages b c → SameBlocksAndPages a c
 pages_then first second = record {
   same_first = second.same_first ∙ first.same_first;
   same_blocks = second.same_blocks ∙ first.same_blocks;
@@ -87,7 +87,7 @@ pub copy_same : (old new : Physical) (p : ℕ) → (new.copy_next ≡ old.copy_n
 copy_same old new p same next = let a = same.0 in let b = same.1 in (omega (arith, a, next.0), omega (arith, a, b, next.1))
 
 -- a place stays one
-pub place_same : {old new : Physical} (p : ℕ) (h : Held) → SameRange old new → (is_kept new (p / old.size) ≡ false) → (IsNext new p → ⊥) → IsPlace old p h → IsPlace new p h
+pub place_same : {old new : Physical} (p : ℕ) (h : Held) → SameRange old new → (is_kept new (p / old.size) ≡ false) → (IsNextToProgram new p → ⊥) → IsLivePlace old p h → IsLivePlace new p h
 place_same {old} {new} p h same in_use behind is = record {
   within = within_same p same is.within;
   in_use = ap (λ n. is_kept new (p / n)) same.range_size ∙ in_use;
@@ -96,14 +96,14 @@ place_same {old} {new} p h same in_use behind is = record {
 }
 
 -- the next page was used
-module _ {x : Option Held} {old new : Physical} (u : IsUsed x old new) where
-  next_fewer : (p : ℕ) → IsNext new p → IsNext old p × (p ≡ old.next → ⊥)
+module _ {x : Option Held} {old new : Physical} (u : UsesNextPage x old new) where
+  next_fewer : (p : ℕ) → IsNextToProgram new p → IsNextToProgram old p × (p ≡ old.next → ⊥)
   next_fewer p next =
       let n = u.next in
       let l = u.left in
       ((omega (arith, n, next.0), omega (arith, n, l, next.1)), λ same. omega (arith, same, n, next.0))
 
-  pub used_places : 0 < old.size → old.next < length old.held → InSegment old old.next → is_kept old (old.next / old.size) ≡ false → IfSome x (λ h. IsTrue (is_stamp h.stamp)) → ArePlaces old → ArePlaces new
+  pub used_places : 0 < old.size → old.next < length old.held → InSegment old old.next → is_kept old (old.next / old.size) ≡ false → IfSome x (λ h. IsTrue (is_stamp h.stamp)) → AreLivePlaces old → AreLivePlaces new
   used_places some within segment in_use spelled are = record {
     each = λ p h is. each p h (set_held old.held old.next x within p h (ap (λ (l : List (Option Held)). get_or l p None) (sym u.held) ∙ is));
   }
@@ -111,7 +111,7 @@ module _ {x : Option Held} {old new : Physical} (u : IsUsed x old new) where
       stays : (b : ℕ) → is_kept old b ≡ false → is_kept new b ≡ false
       stays b was = ap (λ (w : Use). w.is_kept) (u.uses b) ∙ was
 
-      each : (p : ℕ) (h : Held) → ((p ≡ old.next) × (x ≡ Some h)) ⊎ ((p ≡ old.next → ⊥) × (held_at old p ≡ Some h)) → IsPlace new p h
+      each : (p : ℕ) (h : Held) → ((p ≡ old.next) × (x ≡ Some h)) ⊎ ((p ≡ old.next → ⊥) × (held_at old p ≡ Some h)) → IsLivePlace new p h
       each p h (inl here) = record {
         within = within_same p (range_of u.pages) (subst (InSegment old) (sym here.0) segment);
         in_use = ap (λ n. is_kept new (p / n)) u.pages.same_size ∙ stays (p / old.size) (ap (λ q. is_kept old (q / old.size)) here.0 ∙ in_use);
@@ -131,11 +131,11 @@ module _ {x : Option Held} {old new : Physical} (u : IsUsed x old new) where
       (inr (at, clean), λ same. true≢false (sym at ∙ (ap (λ q. is_kept old (q / old.size)) same ∙ in_use)))
 
 -- a Free block is written to
-module _ {block : ℕ} {old new : Physical} (o : IsOpened block old new) where
-  pub opened_next : 0 < old.size → (p : ℕ) → IsNext new p → p / old.size ≡ block
+module _ {block : ℕ} {old new : Physical} (o : OpensFreeBlock block old new) where
+  pub opened_next : 0 < old.size → (p : ℕ) → IsNextToProgram new p → p / old.size ≡ block
   opened_next some p next = let n = o.next in let l = o.left in block_of p old.size block (omega (arith, n, next.0)) (omega (arith, n, l, next.1))
 
-  pub opened_places : 0 < old.size → ArePlaces old → ArePlaces new
+  pub opened_places : 0 < old.size → AreLivePlaces old → AreLivePlaces new
   opened_places some are = record {
     each = λ p h is.
         let was = are.each p h (ap (λ (l : List (Option Held)). get_or l p None) (sym o.held) ∙ is) in
@@ -144,8 +144,8 @@ module _ {block : ℕ} {old new : Physical} (o : IsOpened block old new) where
   }
 
 -- a page died, and no page was given out
-module _ {old new : Physical} (same : SamePages old new) (space : IsUnspent old new) where
-  next_back : (p : ℕ) → IsNext new p → IsNext old p
+module _ {old new : Physical} (same : SameBlocksAndPages old new) (space : IsUnspent old new) where
+  next_back : (p : ℕ) → IsNextToProgram new p → IsNextToProgram old p
   next_back p next = let n = space.next in let l = space.left in (omega (arith, n, next.0), omega (arith, n, l, next.1))
 
   pub unspent_taken : (p : ℕ) → TakenAsErased new p → TakenAsErased old p
@@ -155,7 +155,7 @@ module _ {old new : Physical} (same : SamePages old new) (space : IsUnspent old 
     ap is_some (sym (space.same_soiled (p / old.size))) ∙ (ap (λ n. is_soiled new (p / n)) (sym same.same_size) ∙ free.1),
   )
 
-  pub unspent_places : ((p : ℕ) (h : Held) → held_at new p ≡ Some h → held_at old p ≡ Some h) → ArePlaces old → ArePlaces new
+  pub unspent_places : ((p : ℕ) (h : Held) → held_at new p ≡ Some h → held_at old p ≡ Some h) → AreLivePlaces old → AreLivePlaces new
   unspent_places back are = record {
     each = λ p h is.
         let was = are.each p h (back p h is) in
@@ -163,14 +163,14 @@ module _ {old new : Physical} (same : SamePages old new) (space : IsUnspent old 
   }
 
 -- a page of a block is live, and is not programmed next
-pub held_places : {old new : Physical} (page : ℕ) (h : Held) → SameRange old new → new.held ≡ set old.held page (Some h) → page < length old.held → IsPlace new page h
-    → ((b : ℕ) → is_kept old b ≡ false → is_kept new b ≡ false) → ((p : ℕ) → IsNext new p → IsNext old p) → ArePlaces old → ArePlaces new
+pub held_places : {old new : Physical} (page : ℕ) (h : Held) → SameRange old new → new.held ≡ set old.held page (Some h) → page < length old.held → IsLivePlace new page h
+    → ((b : ℕ) → is_kept old b ≡ false → is_kept new b ≡ false) → ((p : ℕ) → IsNextToProgram new p → IsNextToProgram old p) → AreLivePlaces old → AreLivePlaces new
 held_places {old} {new} page h range held within place free next are = record {
   each = λ p k is. each p k (set_held old.held page (Some h) within p k (ap (λ (l : List (Option Held)). get_or l p None) (sym held) ∙ is));
 }
   where
-    each : (p : ℕ) (k : Held) → ((p ≡ page) × (Some h ≡ Some k)) ⊎ ((p ≡ page → ⊥) × (held_at old p ≡ Some k)) → IsPlace new p k
-    each p k (inl here) = subst (λ n. IsPlace new n k) (sym here.0) (subst (IsPlace new page) (same_Some h k here.1) place)
+    each : (p : ℕ) (k : Held) → ((p ≡ page) × (Some h ≡ Some k)) ⊎ ((p ≡ page → ⊥) × (held_at old p ≡ Some k)) → IsLivePlace new p k
+    each p k (inl here) = subst (λ n. IsLivePlace new n k) (sym here.0) (subst (IsLivePlace new page) (same_Some h k here.1) place)
     each p k (inr there) =
         let was = are.each p k there.1 in
         place_same p k range (free (p / old.size) was.in_use) (λ n. was.behind (next p n)) was
@@ -180,13 +180,13 @@ pub record IsApart (block : ℕ) (old new : Physical) : Type 0 where
   pub range : SameRange old new
   pub next : new.next ≡ old.next
   pub left : new.left ≡ old.left
-  pub idle : (p : ℕ) → IsNext old p → p / old.size ≡ block → ⊥
+  pub idle : (p : ℕ) → IsNextToProgram old p → p / old.size ≡ block → ⊥
   pub others_kept : (other : ℕ) → (other ≡ block → ⊥) → is_kept new other ≡ is_kept old other
   pub others_soiled : (other : ℕ) → (other ≡ block → ⊥) → soiled new other ≡ soiled old other
   pub gone : is_kept new block ≡ true → is_soiled new block ≡ false → ⊥
 
 module _ {block : ℕ} {old new : Physical} (apart : IsApart block old new) where
-  apart_next : (p : ℕ) → IsNext new p → IsNext old p
+  apart_next : (p : ℕ) → IsNextToProgram new p → IsNextToProgram old p
   apart_next p next = let n = apart.next in let l = apart.left in (omega (arith, n, next.0), omega (arith, n, l, next.1))
 
   pub apart_taken : (p : ℕ) → TakenAsErased new p → TakenAsErased old p × (p / old.size ≡ block → ⊥)
@@ -205,7 +205,7 @@ module _ {block : ℕ} {old new : Physical} (apart : IsApart block old new) wher
   )
 
 -- a live page died
-pub ended_places : (seg : Physical) (page : ℕ) → page < length seg.held → ArePlaces seg → ArePlaces (record seg { held = set seg.held page None })
+pub ended_places : (seg : Physical) (page : ℕ) → page < length seg.held → AreLivePlaces seg → AreLivePlaces (record seg { held = set seg.held page None })
 ended_places seg page within are = record {
   each = λ p h is. ⊎_elim
       (λ here. absurd (none-some h here.1))

@@ -7,25 +7,25 @@ use Rattle.nl_blocks.specs.declared.states.BlockState.TheVariants.{Active, Retir
 use Rattle.nl_blocks.specs.declared.states.BlockState.TheVariants as the
 use Rattle.nl_blocks.specs.Table.{Table, HasBlock, block_at}
 use Rattle.nl_remap.specs.Table.{IsOld}
-use Rattle.nl_pseg.specs.Segment.{IsNext, IsNextCopy, held_at}
+use Rattle.nl_pseg.specs.Segment.{IsNextToProgram, IsNextCopy, held_at}
 use Rattle.nl_pseg.specs.Seen.{HasPhases, IsTied, seen}
-use Rattle.nl_pseg.specs.Steps.{IsIdle}
-use Rattle.nl_pseg_blocks.specs.Uses.{Use, use_in, IsTold, SameNumbers, told_state}
+use Rattle.nl_pseg.specs.Steps.{ClosesBlock}
+use Rattle.nl_pseg_blocks.specs.Uses.{Use, use_in, SetsWear, SameNumbers, told_state}
 use Rattle.nl_pseg.specs.declared.held.Held.{Held}
 use Rattle.nl_pseg.specs.Kept.{Kept}
 use Rattle.nl_pseg.proofs.Numbers.{block_of}
 use Rattle.nl_pseg_blocks.proofs.Tables.{has_same}
 use Rattle.nl_pseg.proofs.Tied.{back, named_on}
 
-module _ (s x : Kept) (block : ℕ) (i : IsIdle block s x) (n : SameNumbers s.blocks x.blocks) where
-  pub idle_next : (p : ℕ) → IsNext (seen x) p → IsNext (seen s) p × (p / s.blocks.size ≡ block → ⊥)
+module _ (s x : Kept) (block : ℕ) (i : ClosesBlock block s x) (n : SameNumbers s.blocks x.blocks) where
+  pub idle_next : (p : ℕ) → IsNextToProgram (seen x) p → IsNextToProgram (seen s) p × (p / s.blocks.size ≡ block → ⊥)
   idle_next p next = ⊎_elim
       (λ here. let u = here.1 in let e = n.same_size in absurd (omega (arith, next.0, next.1, u, e)))
       (λ there.
       let a : x.active * x.blocks.size ≡ s.active * s.blocks.size = (λ j. i.active j * n.same_size j) in
       let u = there.1 in
       let e = n.same_size in
-      let is : IsNext (seen s) p = (omega (arith, a, u, next.0), omega (arith, a, u, e, next.0, next.1)) in
+      let is : IsNextToProgram (seen s) p = (omega (arith, a, u, next.0), omega (arith, a, u, e, next.0, next.1)) in
       let at : p / s.blocks.size ≡ s.active = block_of p s.blocks.size s.active (omega (arith, is.0)) (omega (arith, is.0, is.1)) in
       (is, (λ same. there.0 (sym same ∙ at))))
       i.used
@@ -51,7 +51,7 @@ pub record IsSet (state : BlockState) : Type 0 where
 pub sealed_set : (state : BlockState) → state ≡ Sealed → IsSet state
 sealed_set state is = record { active = λ e. cc (sym is ∙ e); target = λ e. cc (sym is ∙ e); victim = λ e. cc (sym is ∙ e) }
 
-module _ (s x : Kept) (tied : IsTied s) (block : ℕ) (i : IsIdle block s x) (n : SameNumbers s.blocks x.blocks) (none : s.victim ≡ None) (victim : x.victim ≡ s.victim)
+module _ (s x : Kept) (tied : IsTied s) (block : ℕ) (i : ClosesBlock block s x) (n : SameNumbers s.blocks x.blocks) (none : s.victim ≡ None) (victim : x.victim ≡ s.victim)
     (here : IsSet (block_at x.blocks block).state) (others : (b : ℕ) → HasBlock s.blocks b → (b ≡ block → ⊥) → (block_at x.blocks b).state ≡ (block_at s.blocks b).state) where
   other : (b : ℕ) (state : BlockState) → (block_at x.blocks b).state ≡ state → ((block_at x.blocks block).state ≡ state → ⊥) → b ≡ block → ⊥
   other b state is not e = not (ap (λ k. (block_at x.blocks k).state) (sym e) ∙ is)
@@ -110,7 +110,7 @@ module _ (s x : Kept) (tied : IsTied s) (block : ℕ) (i : IsIdle block s x) (n 
     }
 
 -- what a block that was told to be soiled is used for
-told_use : (s : Kept) (t : Table) (block wear : ℕ) → IsTold block wear s.blocks t → (b : ℕ) → ((use_in t b).is_free ≡ (use_in s.blocks b).is_free) × ((use_in t b).is_kept ≡ (use_in s.blocks b).is_kept)
+told_use : (s : Kept) (t : Table) (block wear : ℕ) → SetsWear block wear s.blocks t → (b : ℕ) → ((use_in t b).is_free ≡ (use_in s.blocks b).is_free) × ((use_in t b).is_kept ≡ (use_in s.blocks b).is_kept)
 told_use s t block wear told b = ⊎_elim
     (λ e. (
       ap (λ k. (use_in t k).is_free) e ∙ (ap (λ (u : Use). u.is_free) told.here ∙ ap (λ k. (use_in s.blocks k).is_free) (sym e)),
@@ -119,10 +119,10 @@ told_use s t block wear told b = ⊎_elim
     (λ ne. (ap (λ (u : Use). u.is_free) (told.others b ne), ap (λ (u : Use). u.is_kept) (told.others b ne)))
     (cases_eq b block)
 
-pub told_free : (s : Kept) (t : Table) (block wear : ℕ) → IsTold block wear s.blocks t → (b : ℕ) → (use_in t b).is_free ≡ (use_in s.blocks b).is_free
+pub told_free : (s : Kept) (t : Table) (block wear : ℕ) → SetsWear block wear s.blocks t → (b : ℕ) → (use_in t b).is_free ≡ (use_in s.blocks b).is_free
 told_free s t block wear told b = (told_use s t block wear told b).0
 
-pub told_kept : (s : Kept) (t : Table) (block wear : ℕ) → IsTold block wear s.blocks t → (b : ℕ) → (use_in t b).is_kept ≡ (use_in s.blocks b).is_kept
+pub told_kept : (s : Kept) (t : Table) (block wear : ℕ) → SetsWear block wear s.blocks t → (b : ℕ) → (use_in t b).is_kept ≡ (use_in s.blocks b).is_kept
 told_kept s t block wear told b = (told_use s t block wear told b).1
 
 set_told : (state : BlockState) → IsSet (told_state state)

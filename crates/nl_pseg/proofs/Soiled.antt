@@ -2,7 +2,7 @@
 use Rattle.std.proofs.Common.{inl, inr, ⊎_elim, ℕ, ◌/◌, ◌<◌, ◌≤◌, List, Option, Some, None, get_or, sym, ◌∙◌, ap, subst}
 use Rattle.nl_field.specs.Page.{Image}
 use Rattle.nl_pseg.specs.Opened.{Soils}
-use Rattle.nl_pseg.specs.Segment.{HasSpare, KeepsBlock, Physical}
+use Rattle.nl_pseg.specs.Segment.{CanSpareBlock, KeepsBlock, Physical}
 use Rattle.nl_pseg.specs.declared.held.Held.{Held}
 
 module _ {block wear : ℕ} {old new : Physical} (e : Soils block wear old new) where
@@ -14,7 +14,7 @@ module _ {block wear : ℕ} {old new : Physical} (e : Soils block wear old new) 
     kept = ⊎_elim (λ is. inl ((e.same k.block).1 ∙ is)) (λ is. inr (e.victim ∙ is)) k.kept;
   }
 
-  pub soils_spare : (image : Image) → HasSpare image old → HasSpare image new
+  pub soils_spare : (image : Image) → CanSpareBlock image old → CanSpareBlock image new
   soils_spare image k =
       let size = e.range.range_size in
       record {

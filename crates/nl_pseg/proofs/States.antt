@@ -5,8 +5,8 @@ use Rattle.std.proofs.lemmas.List.{get_or_past, length-map}
 use Rattle.std.proofs.lemmas.Nat.{div_below}
 use Rattle.nl_blocks.specs.declared.states.BlockState.{BlockState}
 use Rattle.nl_blocks.specs.Table.{HasBlock}
-use Rattle.nl_pseg.specs.Segment.{IsNext, InSegment, KeptAreDead, TakenAsErased, is_kept}
-use Rattle.nl_pseg.specs.Seen.{IsFormed, seen}
+use Rattle.nl_pseg.specs.Segment.{IsNextToProgram, InSegment, KeptAreDead, TakenAsErased, is_kept}
+use Rattle.nl_pseg.specs.Seen.{IsPhysicalFormed, seen}
 use Rattle.nl_pseg_blocks.specs.Uses.{Use, no_use, use_at, is_kept_state, use_of}
 use Rattle.nl_pseg.specs.Kept.{Kept}
 use Rattle.nl_pseg.proofs.Numbers.{in_block, block_of, block_below, block_from}
@@ -50,7 +50,7 @@ kept_block s block free =
     let n : length (map use_of s.blocks.blocks) ≡ length s.blocks.blocks = length-map s.blocks.blocks use_of in
     record { from = h.0; below = omega (arith, h.1, n) }
 
-module _ (s : Kept) (is : IsFormed s) where
+module _ (s : Kept) (is : IsPhysicalFormed s) where
   -- what is taken as erased is a page of the segment
   pub taken_segment : (p : ℕ) → TakenAsErased (seen s) p → InSegment (seen s) p
   taken_segment p (inl next) = block_segment s s.active p is.active_in (omega (arith, next.0)) (let fits = is.used_fits in omega (arith, next.1, next.0, fits))
@@ -65,21 +65,21 @@ module _ (s : Kept) (is : IsFormed s) where
   length_segment p from below = let n = is.pages in (from, omega (arith, n, below))
 
   module _ (room : s.used < s.blocks.size) where
-    pub next_block : (p : ℕ) → IsNext (seen s) p → p / s.blocks.size ≡ s.active
+    pub next_block : (p : ℕ) → IsNextToProgram (seen s) p → p / s.blocks.size ≡ s.active
     next_block p next = block_of p s.blocks.size s.active (omega (arith, next.0)) (omega (arith, next.1, room))
 
-    pub next_segment : (p : ℕ) → IsNext (seen s) p → InSegment (seen s) p
+    pub next_segment : (p : ℕ) → IsNextToProgram (seen s) p → InSegment (seen s) p
     next_segment p next = block_segment s s.active p is.active_in (omega (arith, next.0)) (omega (arith, next.1, room))
 
-    pub is_next : IsNext (seen s) (s.active * s.blocks.size + s.used)
+    pub is_next : IsNextToProgram (seen s) (s.active * s.blocks.size + s.used)
     is_next = (omega arith, omega (arith, room))
 
     active_in_use : is_kept (seen s) s.active ≡ false
     active_in_use = ap (λ (u : Use). u.is_kept) (use_here s.blocks s.active is.active_in) ∙ ap (λ (b : BlockState). is_kept_state b) (is.taken room)
 
-    pub next_in_use : (p : ℕ) → IsNext (seen s) p → is_kept (seen s) (p / s.blocks.size) ≡ false
+    pub next_in_use : (p : ℕ) → IsNextToProgram (seen s) p → is_kept (seen s) (p / s.blocks.size) ≡ false
     next_in_use p next = ap (is_kept (seen s)) (next_block p next) ∙ active_in_use
 
 -- no page of a block that is kept is live
-pub kept_dead : (s : Kept) → IsFormed s → KeptAreDead (seen s)
+pub kept_dead : (s : Kept) → IsPhysicalFormed s → KeptAreDead (seen s)
 kept_dead s is p h held = (is.places.each p h held).in_use

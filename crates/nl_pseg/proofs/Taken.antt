@@ -5,7 +5,7 @@ use Rattle.std.proofs.lemmas.Bool.{cases_eq, true≢false}
 use Rattle.nl_blocks.specs.declared.states.BlockState.{BlockState}
 use Rattle.nl_blocks.specs.declared.states.BlockState.TheVariants.{Active, Retired, Target, Victim}
 use Rattle.nl_blocks.specs.Table.{Table, HasBlock, block_at, is_free_state}
-use Rattle.nl_pseg.specs.Segment.{IsNext, IsNextCopy}
+use Rattle.nl_pseg.specs.Segment.{IsNextToProgram, IsNextCopy}
 use Rattle.nl_pseg.specs.Seen.{HasPhases, IsNamed, IsTied, seen}
 use Rattle.nl_pseg.specs.Steps.{IsTaking}
 use Rattle.nl_pseg_blocks.specs.Uses.{Use, use_in, SameUse}
@@ -33,7 +33,7 @@ module _ (s : Kept) (block : ℕ) (k : IsTaking s block) (some : 0 < s.blocks.si
   size : s.blocks.size ≡ k.table.size
   size = k.restated.numbers.same_size
 
-  next_in : (p : ℕ) → IsNext (seen after) p → p / s.blocks.size ≡ block
+  next_in : (p : ℕ) → IsNextToProgram (seen after) p → p / s.blocks.size ≡ block
   next_in p n = block_of p s.blocks.size block (omega (arith, n.0)) (omega (arith, n.1))
 
   copies : (p : ℕ) → IsNextCopy (seen after) p → IsNextCopy (seen before) p
@@ -104,7 +104,7 @@ module _ (s : Kept) (tied : IsTied s) (t : Table) (same : SameUse s.blocks t) (b
   still_free : (use_in t block).is_free ≡ true
   still_free = ap (λ (u : Use). u.is_free) (same.uses block) ∙ free
 
-  nexts : (p : ℕ) → IsNext (seen again) p → IsNext (seen s) p
+  nexts : (p : ℕ) → IsNextToProgram (seen again) p → IsNextToProgram (seen s) p
   nexts p n =
       let a : s.active * t.size ≡ s.active * s.blocks.size = ap (λ m. s.active * m) size_is in
       let e = size_is in

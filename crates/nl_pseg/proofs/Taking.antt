@@ -5,8 +5,8 @@ use Rattle.nl_blocks.specs.Table.{Table, HasBlock, block_at}
 use Rattle.nl_blocks.specs.Used.{SameUsed, is_active_state, is_target_state, used_in}
 use Rattle.nl_blocks.proofs.UsedLaws.{used-full}
 use Rattle.nl_pseg.specs.Kept.{Kept, kept}
-use Rattle.nl_pseg.specs.Seen.{IsFormed, IsTied}
-use Rattle.nl_pseg_blocks.specs.Uses.{Use, use_in, Restated, SameFill, SameNumbers}
+use Rattle.nl_pseg.specs.Seen.{IsPhysicalFormed, IsTied}
+use Rattle.nl_pseg_blocks.specs.Uses.{Use, use_in, SetsUse, SameFill, SameNumbers}
 use Rattle.nl_pseg.specs.declared.state.State.{State}
 use Rattle.nl_pseg.proofs.Closed.{as_counted, closed_by, same_counted}
 use Rattle.nl_pseg_blocks.proofs.Tables.{has_same, shut_free}
@@ -30,7 +30,7 @@ taken_by s t = record (kept s) { used = t.size; filled = used_in is_target_state
 abbrev pub targeted_by : State → Table → Kept
 targeted_by s t = record (kept s) { used = used_in is_active_state t s.active; filled = t.size }
 
-module _ (s : State) (is : IsFormed (kept s)) (tied : IsTied (kept s)) where
+module _ (s : State) (is : IsPhysicalFormed (kept s)) (tied : IsTied (kept s)) where
   pub taken_counted : (t : Table) → SameNumbers s.blocks t → s.blocks.size ≤ (kept s).used → ((b : ℕ) → HasBlock s.blocks b → SameUsed is_target_state b s.blocks t) → kept s ≡ taken_by s t
   taken_counted t n full filled = as_counted (kept s) t.size (used_in is_target_state t s.target)
       (let e = n.same_size in let fits = is.used_fits in omega (arith, e, fits, full))
@@ -42,7 +42,7 @@ module _ (s : State) (is : IsFormed (kept s)) (tied : IsTied (kept s)) where
       (let e = n.same_size in let fits = tied.phases.filled_fits in omega (arith, e, fits, full))
 
   -- the block is Free again
-  module _ (block wear : ℕ) (has : HasBlock s.blocks block) (free : (use_in s.blocks block).is_free ≡ true) (t : Table) (r : Restated block true wear s.blocks t) where
+  module _ (block wear : ℕ) (has : HasBlock s.blocks block) (free : (use_in s.blocks block).is_free ≡ true) (t : Table) (r : SetsUse block true wear s.blocks t) where
     again_fill : SameFill s.blocks t
     again_fill =
         let was = shut_free (block_at s.blocks block).state (state_free s.blocks block has free) in

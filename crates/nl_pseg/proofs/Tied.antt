@@ -11,8 +11,8 @@ use Rattle.nl_remap.specs.Links.{HasLink, link_at, no_link}
 use Rattle.nl_remap.specs.Table.{IsOld, IsRemap, pair}
 use Rattle.nl_remap.specs.declared.links.Link.{Link}
 use Rattle.nl_pseg_names.specs.OldNames.{NameTable, names_among}
-use Rattle.nl_pseg.specs.Segment.{IsNext, IsNextCopy, IsOldName, held_at, is_free}
-use Rattle.nl_pseg.specs.Seen.{HasPhases, IsFormed, IsNamed, IsStanding, IsTied, seen}
+use Rattle.nl_pseg.specs.Segment.{IsNextToProgram, IsNextCopy, IsOldName, held_at, is_free}
+use Rattle.nl_pseg.specs.Seen.{HasPhases, IsPhysicalFormed, IsNamed, IsOldNameInUse, IsTied, seen}
 use Rattle.nl_pseg_blocks.specs.Uses.{Use, use_in, SameNumbers, SameUse}
 use Rattle.nl_pseg.specs.declared.held.Held.{Held}
 use Rattle.nl_pseg.specs.Kept.{Kept}
@@ -27,7 +27,7 @@ back n = record { same_first = sym n.same_first; same_size = sym n.same_size; sa
 -- What is tied to the names stays so where the pairs are the same: each old name stands still and is no live page, each pair leads
 -- to a live page, and no other block waits.
 pub named_on : (s x : Kept) → IsNamed s → x.names ≡ s.names → SameNumbers s.blocks x.blocks → ((p : ℕ) (h : Held) → held_at (seen x) p ≡ Some h → IsOld s.names.pairs p → ⊥)
-    → ((pair : Link) → HasLink s.names.pairs pair → (h : Held) × (held_at (seen x) pair.to ≡ Some h)) → ((n : ℕ) → IsOld s.names.pairs n → IsStanding (seen s) n → IsStanding (seen x) n)
+    → ((pair : Link) → HasLink s.names.pairs pair → (h : Held) × (held_at (seen x) pair.to ≡ Some h)) → ((n : ℕ) → IsOld s.names.pairs n → IsOldNameInUse (seen s) n → IsOldNameInUse (seen x) n)
     → ((b k : ℕ) → HasBlock s.blocks b → (block_at x.blocks b).state ≡ Retired k → (block_at s.blocks b).state ≡ Retired k) → IsNamed x
 named_on s x is same n own live stands waits = record {
   size = ap (λ (t : NameTable). t.size) same ∙ (is.size ∙ sym n.same_size);
@@ -67,7 +67,7 @@ old_is s n old =
     let e : turn (link_at s.names.pairs old.1.0) ≡ (n, old.0) = sym (get_or-map turn s.names.pairs old.1.0 no_link (n, old.0) within) ∙ old.1.2 in
     (old.1.0, within, ap (λ (p : ℕ × ℕ). p.0) e)
 
-module _ (s : Kept) (is : IsFormed s) (tied : IsTied s) where
+module _ (s : Kept) (is : IsPhysicalFormed s) (tied : IsTied s) where
   -- a page that is taken for a copy lies in a Target block
   pub copy_target : (p : ℕ) → IsNextCopy (seen s) p → (p / s.blocks.size ≡ s.target) × ((block_at s.blocks s.target).state ≡ Target)
   copy_target p next =
@@ -90,14 +90,14 @@ module _ (s : Kept) (is : IsFormed s) (tied : IsTied s) where
         other (sym st ∙ (ap (λ b. (block_at s.blocks b).state) (sym at ∙ w.0) ∙ w.1))
 
   -- a page that is programmed next is no old name, none for copies, and not in the victim
-  pub next_own : (p : ℕ) → IsNext (seen s) p → IsOldName (seen s) p → ⊥
+  pub next_own : (p : ℕ) → IsNextToProgram (seen s) p → IsOldName (seen s) p → ⊥
   next_own p next old = (tied.named.standing p (old_is s p old)).behind next
 
   module _ (room : s.used < s.blocks.size) where
-    pub next_copy : (p : ℕ) → IsNext (seen s) p → IsNextCopy (seen s) p → ⊥
+    pub next_copy : (p : ℕ) → IsNextToProgram (seen s) p → IsNextCopy (seen s) p → ⊥
     next_copy p next copy = not_copy s.active is.active_in Active (is.taken room) (λ e. cc e) p copy (next_block s is room p next)
 
-    pub next_apart : (p : ℕ) → IsNext (seen s) p → s.victim ≡ Some (p / s.blocks.size) → ⊥
+    pub next_apart : (p : ℕ) → IsNextToProgram (seen s) p → s.victim ≡ Some (p / s.blocks.size) → ⊥
     next_apart p next at = not_victim s.active is.active_in Active (is.taken room) (λ e. cc e) (at ∙ ap (λ b. Some b) (next_block s is room p next))
 
   module _ (block : ℕ) (has : HasBlock s.blocks block) (free : is_free (seen s) block ≡ true) where
@@ -134,7 +134,7 @@ ended_tied s tied t same states page within alone =
       behind = λ p h held copy. tied.behind p h (was p h held) (copies p copy);
     }
   where
-    next_same : (s : Kept) (t : Table) → SameUse s.blocks t → (p : ℕ) → IsNext (seen (record s { blocks = t })) p → IsNext (seen s) p
+    next_same : (s : Kept) (t : Table) → SameUse s.blocks t → (p : ℕ) → IsNextToProgram (seen (record s { blocks = t })) p → IsNextToProgram (seen s) p
     next_same s t same p n =
         let e = same.numbers.same_size in
         let a : s.active * t.size ≡ s.active * s.blocks.size = ap (λ m. s.active * m) e in

@@ -6,8 +6,8 @@ use Rattle.std.proofs.lemmas.List.{get_or-set_other}
 use Rattle.std.proofs.lemmas.Option.{none-some}
 use Rattle.nl_blocks.specs.declared.states.BlockState.TheVariants.{Active, Sealed, Retired}
 use Rattle.nl_blocks.specs.Table.{Table, HasBlock, block_at}
-use Rattle.nl_pseg.specs.Segment.{IsNext, IsNextCopy, held_at}
-use Rattle.nl_pseg.specs.Seen.{HasPhases, IsFormed, IsNamed, IsTied, seen}
+use Rattle.nl_pseg.specs.Segment.{IsNextToProgram, IsNextCopy, held_at}
+use Rattle.nl_pseg.specs.Seen.{HasPhases, IsPhysicalFormed, IsNamed, IsTied, seen}
 use Rattle.nl_pseg_blocks.specs.Uses.{Use, use_at, SameUse}
 use Rattle.nl_pseg.specs.declared.held.Held.{Held}
 use Rattle.nl_pseg.specs.Kept.{Kept}
@@ -16,19 +16,19 @@ use Rattle.nl_pseg.proofs.States.{is_next}
 use Rattle.nl_pseg_blocks.proofs.Tables.{has_same}
 use Rattle.nl_pseg.proofs.Tied.{back, named_on, next_copy}
 
-module _ (s : Kept) (is : IsFormed s) (tied : IsTied s) (room : s.used < s.blocks.size) (t : Table) (same : SameUse s.blocks t) (page : ℕ) (at : page ≡ s.active * s.blocks.size + s.used) (x : Option Held)
+module _ (s : Kept) (is : IsPhysicalFormed s) (tied : IsTied s) (room : s.used < s.blocks.size) (t : Table) (same : SameUse s.blocks t) (page : ℕ) (at : page ≡ s.active * s.blocks.size + s.used) (x : Option Held)
     (here : (((block_at t s.active).state ≡ Active) × (s.used + 1 < s.blocks.size)) ⊎ ((block_at t s.active).state ≡ Sealed))
     (others : (b : ℕ) → HasBlock s.blocks b → (b ≡ s.active → ⊥) → (block_at t b).state ≡ (block_at s.blocks b).state) (within : page < length s.held.items) where
   abbrev new : Kept
   new = record s { held = with_item s.held page x; blocks = t; used = s.used + 1 }
 
-  next : IsNext (seen s) page
-  next = subst (IsNext (seen s)) (sym at) (is_next s is room)
+  next : IsNextToProgram (seen s) page
+  next = subst (IsNextToProgram (seen s)) (sym at) (is_next s is room)
 
   size : t.size ≡ s.blocks.size
   size = same.numbers.same_size
 
-  fewer : (p : ℕ) → IsNext (seen new) p → IsNext (seen s) p
+  fewer : (p : ℕ) → IsNextToProgram (seen new) p → IsNextToProgram (seen s) p
   fewer p n =
       let a : s.active * t.size ≡ s.active * s.blocks.size = ap (λ k. s.active * k) size in
       let e = size in
@@ -50,7 +50,7 @@ module _ (s : Kept) (is : IsFormed s) (tied : IsTied s) (room : s.used < s.block
   named : IsNamed new
   named = named_on s new tied.named refl same.numbers
       (λ p h held old. ⊎_elim
-      (λ e. (tied.named.standing p old).behind (subst (IsNext (seen s)) (sym e.0) next))
+      (λ e. (tied.named.standing p old).behind (subst (IsNextToProgram (seen s)) (sym e.0) next))
       (λ e. tied.named.own p h e.1 old)
       (set_held s.held.items page x within p h held))
       (λ pair has.
@@ -97,7 +97,7 @@ module _ (s : Kept) (is : IsFormed s) (tied : IsTied s) (room : s.used < s.block
     named = named;
     phases = phases;
     behind = λ p h held copy. ⊎_elim
-        (λ e. next_copy s is tied room p (subst (IsNext (seen s)) (sym e.0) next) (copies p copy))
+        (λ e. next_copy s is tied room p (subst (IsNextToProgram (seen s)) (sym e.0) next) (copies p copy))
         (λ e. tied.behind p h e.1 (copies p copy))
         (set_held s.held.items page x within p h held);
   }

@@ -5,7 +5,7 @@ use Rattle.std.proofs.lemmas.List.{get_or-set_other}
 use Rattle.nl_blocks.specs.Table.{Table, worn}
 use Rattle.nl_pseg.specs.Segment.{CountsErases, Physical, erasures, is_free, is_soiled, soiled, wear_of, wear_with}
 use Rattle.nl_pseg.specs.Seen.{seen}
-use Rattle.nl_pseg_blocks.specs.Uses.{Use, use_at, use_in, Restated}
+use Rattle.nl_pseg_blocks.specs.Uses.{Use, use_at, use_in, SetsUse}
 use Rattle.nl_pseg.specs.Kept.{Kept}
 use Rattle.nl_pseg_blocks.proofs.Tables.{free_kept, restated_again}
 
@@ -30,7 +30,7 @@ pub wear_same : (a b : Use) (told now : Option ℕ) → b.is_kept ≡ a.is_kept 
 wear_same a b told now kept wear marks = (λ i. cond (kept i && is_some (marks i)) (worn (wear i)) (wear i))
 
 -- A Free block was taken, and erased where it was soiled.
-pub taken_wear : (s : Kept) (t : Table) (block : ℕ) → Restated block false (wear_of (seen s) block) s.blocks t → (b : ℕ) → wear_with (use_in t b) (get_or (set s.soiled.items block None) b None) ≡ wear_of (seen s) b
+pub taken_wear : (s : Kept) (t : Table) (block : ℕ) → SetsUse block false (wear_of (seen s) block) s.blocks t → (b : ℕ) → wear_with (use_in t b) (get_or (set s.soiled.items block None) b None) ≡ wear_of (seen s) b
 taken_wear s t block r b = ⊎_elim
     (λ at. wear_used (use_in t b) (get_or (set s.soiled.items block None) b None) (ap (λ n. (use_in t n).is_kept) at ∙ ap (λ (u : Use). u.is_kept) r.here)
     ∙ (ap (λ n. (use_in t n).wear) at ∙ (ap (λ (u : Use). u.wear) r.here ∙ ap (wear_of (seen s)) (sym at))))
@@ -38,13 +38,13 @@ taken_wear s t block r b = ⊎_elim
     (cases_eq b block)
 
 -- a Free block was taken that is not soiled
-pub taken_clean : (s : Kept) (t : Table) (block : ℕ) → is_soiled (seen s) block ≡ false → Restated block false (use_in s.blocks block).wear s.blocks t → Restated block false (wear_of (seen s) block) s.blocks t
-taken_clean s t block clean r = subst (λ n. Restated block false n s.blocks t) (sym (wear_clean (use_in s.blocks block) (soiled (seen s) block) clean)) r
+pub taken_clean : (s : Kept) (t : Table) (block : ℕ) → is_soiled (seen s) block ≡ false → SetsUse block false (use_in s.blocks block).wear s.blocks t → SetsUse block false (wear_of (seen s) block) s.blocks t
+taken_clean s t block clean r = subst (λ n. SetsUse block false n s.blocks t) (sym (wear_clean (use_in s.blocks block) (soiled (seen s) block) clean)) r
 
 -- a soiled one was taken, and erased
-pub taken_soiled : (s : Kept) (mid t : Table) (block : ℕ) → (use_in s.blocks block).is_free ≡ true → is_soiled (seen s) block ≡ true → Restated block false (use_in s.blocks block).wear s.blocks mid → Restated block false (worn (use_in mid block).wear) mid t
-    → Restated block false (wear_of (seen s) block) s.blocks t
-taken_soiled s mid t block free is r out = subst (λ n. Restated block false n s.blocks t) (ap (λ (u : Use). worn u.wear) r.here ∙ sym (wear_soiled (use_in s.blocks block) (soiled (seen s) block) (free_kept s.blocks block free) is)) (restated_again r out)
+pub taken_soiled : (s : Kept) (mid t : Table) (block : ℕ) → (use_in s.blocks block).is_free ≡ true → is_soiled (seen s) block ≡ true → SetsUse block false (use_in s.blocks block).wear s.blocks mid → SetsUse block false (worn (use_in mid block).wear) mid t
+    → SetsUse block false (wear_of (seen s) block) s.blocks t
+taken_soiled s mid t block free is r out = subst (λ n. SetsUse block false n s.blocks t) (ap (λ (u : Use). worn u.wear) r.here ∙ sym (wear_soiled (use_in s.blocks block) (soiled (seen s) block) (free_kept s.blocks block free) is)) (restated_again r out)
 
 -- one mark less
 pub none_there : (xs : List (Option ℕ)) (at : ℕ) → get_or (set xs at None) at None ≡ None
@@ -58,7 +58,7 @@ none_is None clean = refl
 none_is (Some n) clean = absurd (true≢false clean)
 
 -- a Free block was taken, and erased where it was soiled
-pub taken_counts : (s : Kept) (t : Table) (block : ℕ) → (use_in s.blocks block).is_free ≡ true → Restated block false (wear_of (seen s) block) s.blocks t → (b : ℕ)
+pub taken_counts : (s : Kept) (t : Table) (block : ℕ) → (use_in s.blocks block).is_free ≡ true → SetsUse block false (wear_of (seen s) block) s.blocks t → (b : ℕ)
     → (((use_in t b).wear ≡ erasures (seen s) b) × (get_or (set s.soiled.items block None) b None ≡ soiled (seen s) b))
     ⊎ ((is_free (seen s) b ≡ true) × (is_some (soiled (seen s) b) ≡ true) × (get_or (set s.soiled.items block None) b None ≡ None) × ((use_in t b).wear ≡ worn (erasures (seen s) b)))
 taken_counts s t block free r b = ⊎_elim here (λ ne. inl (ap (λ (u : Use). u.wear) (r.others b ne), get_or-set_other s.soiled.items block b None None ne)) (cases_eq b block)

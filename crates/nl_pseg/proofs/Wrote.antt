@@ -7,16 +7,16 @@ use Rattle.nl_field.specs.Page.{Image, page_at}
 use Rattle.nl_field.specs.declared.answers.Named.{Named}
 use Rattle.nl_field.specs.declared.answers.Named.TheVariants as the
 use Rattle.nl_field.specs.declared.pointer.Tag.{Tag}
-use Rattle.nl_blocks.specs.Table.{IsTable}
+use Rattle.nl_blocks.specs.Table.{IsBlockTable}
 use Rattle.nl_pseg.specs.Answers.{IfPlaced}
 use Rattle.nl_pseg.specs.Effects.{Crashes}
 use Rattle.nl_pseg_pages.specs.Pages.{shown_by}
-use Rattle.nl_pseg.specs.Segment.{HasSpare, IsDead, IsNext, Physical, held_at, is_kept}
+use Rattle.nl_pseg.specs.Segment.{CanSpareBlock, IsDead, IsNextToProgram, Physical, held_at, is_kept}
 use Rattle.nl_pseg_blocks.specs.Uses.{Use}
-use Rattle.nl_pseg.specs.Seen.{IsFormed, IsTied, seen}
-use Rattle.nl_pseg.specs.Space.{HasFewPairs, HasRoomForVictim, IsWhole, SameCleaning, left_of, victims, waiting}
+use Rattle.nl_pseg.specs.Seen.{IsPhysicalFormed, IsTied, seen}
+use Rattle.nl_pseg.specs.Space.{HasFewPairs, HasRoomForVictim, IsWhole, SameCleaning, left_in_victim, victims, waiting}
 use Rattle.nl_pseg.specs.Steps.{Placing}
-use Rattle.nl_pseg.specs.Writes.{AddsPage, Writes}
+use Rattle.nl_pseg.specs.Writes.{AddsPage, WritesSegment}
 use Rattle.nl_pseg.specs.declared.held.Held.{Held}
 use Rattle.nl_pseg.specs.Kept.{Kept}
 use Rattle.nl_pseg.proofs.Ended.{few_on}
@@ -38,10 +38,10 @@ placed_same the.NoPage stamp x old new is b p named from below = ap (λ (l : Lis
 placed_same the.Fault stamp x old new is b p named from below = ap (λ (l : List (Option Held)). get_or l p None) (is.same (λ n. n))
 
 -- the live pages of a victim fit in a block
-pub left_fits : (seg : Physical) → IsWhole seg → left_of seg ≤ seg.size
+pub left_fits : (seg : Physical) → IsWhole seg → left_in_victim seg ≤ seg.size
 left_fits seg whole = of seg.victim refl
   where
-    of : (v : Option ℕ) → seg.victim ≡ v → left_of seg ≤ seg.size
+    of : (v : Option ℕ) → seg.victim ≡ v → left_in_victim seg ≤ seg.size
     of None e =
         let none : victims seg ≡ 0 = ap (λ (w : Option ℕ). cond (is_some w) 1 0) e in
         let m : victims seg * seg.size ≡ 0 * seg.size = ap (λ k. k * seg.size) none in
@@ -61,7 +61,7 @@ some_lands seg whole some =
     omega (arith, fits, one)
 
 -- where a block is Free, some block can be done without
-pub free_spare : (s : Kept) → IsFormed s → 1 ≤ (seen s).free + waiting (seen s) → (image : Image) → HasSpare image (seen s)
+pub free_spare : (s : Kept) → IsPhysicalFormed s → 1 ≤ (seen s).free + waiting (seen s) → (image : Image) → CanSpareBlock image (seen s)
 free_spare s is some image =
     let k = kept_some s is some in
     let kept : is_kept (seen s) k.0 ≡ true = ap (λ (u : Use). u.is_kept) (use_from s.blocks.first (seen s).uses k.0 k.1.from) ∙ k.2 in
@@ -87,15 +87,15 @@ still_page {contents = contents} {a = a} {b = b} k p live = ⊎_elim
     k.either
 
 -- what a page that is live now was
-placed_was : (answer : Named) (stamp : ℕ) (x : Option Held) (old new : Physical) → Placing stamp (λ at. set old.held at.name x) answer old new → IfPlaced answer (λ at. IsNext old at.name) → (p : ℕ) → (IsNext old p → ⊥) → get_or new.held p None ≡ get_or old.held p None
-placed_was (the.Placed at) stamp x old new is next p apart = ap (λ (l : List (Option Held)). get_or l p None) is.held ∙ get_or-set_other old.held at.name p x None (λ e. apart (subst (IsNext old) (sym e) next))
+placed_was : (answer : Named) (stamp : ℕ) (x : Option Held) (old new : Physical) → Placing stamp (λ at. set old.held at.name x) answer old new → IfPlaced answer (λ at. IsNextToProgram old at.name) → (p : ℕ) → (IsNextToProgram old p → ⊥) → get_or new.held p None ≡ get_or old.held p None
+placed_was (the.Placed at) stamp x old new is next p apart = ap (λ (l : List (Option Held)). get_or l p None) is.held ∙ get_or-set_other old.held at.name p x None (λ e. apart (subst (IsNextToProgram old) (sym e) next))
 placed_was the.NotLive stamp x old new is next p apart = ap (λ (l : List (Option Held)). get_or l p None) (is.same (λ n. n))
 placed_was the.NoPage stamp x old new is next p apart = ap (λ (l : List (Option Held)). get_or l p None) (is.same (λ n. n))
 placed_was the.Fault stamp x old new is next p apart = ap (λ (l : List (Option Held)). get_or l p None) (is.same (λ n. n))
 
 -- some block can still be done without, where no Free block was taken
-pub placed_spares : (answer : Named) (stamp : ℕ) (x : Option Held) (old new : Physical) → Placing stamp (λ at. set old.held at.name x) answer old new → ((p : ℕ) → IsNext new p → IsNext old p) → IfPlaced answer (λ at. IsNext old at.name)
-    → (i j : Image) → ((p : ℕ) → (IsDead old p → ⊥) → page_at j p ≡ page_at i p) → HasSpare i old → HasSpare j new
+pub placed_spares : (answer : Named) (stamp : ℕ) (x : Option Held) (old new : Physical) → Placing stamp (λ at. set old.held at.name x) answer old new → ((p : ℕ) → IsNextToProgram new p → IsNextToProgram old p) → IfPlaced answer (λ at. IsNextToProgram old at.name)
+    → (i j : Image) → ((p : ℕ) → (IsDead old p → ⊥) → page_at j p ≡ page_at i p) → CanSpareBlock i old → CanSpareBlock j new
 placed_spares answer stamp x old new p nexts next i j still spare =
     let size = p.pages.same_size in
     record {
@@ -112,9 +112,9 @@ placed_spares answer stamp x old new p nexts next i j still spare =
           (w.0, p.names.same_victim ∙ (w.1 ∙ ap (λ m. Some (w.0 / m)) (sym size)), (λ e. w.2 (ap (λ m. w.0 / m) (sym size) ∙ e)), ap shown_by second ∙ (w.3 ∙ ap shown_by (sym first)));
     }
 
-module _ (answer : Named) (stamp : ℕ) (x : Option Held) (s n : Kept) (is : IsFormed s) (tied : IsTied s) (table : IsTable s.blocks) (few : HasFewPairs (seen s)) (now : IsFormed n) (tied_now : IsTied n) (table_now : IsTable n.blocks)
+module _ (answer : Named) (stamp : ℕ) (x : Option Held) (s n : Kept) (is : IsPhysicalFormed s) (tied : IsTied s) (table : IsBlockTable s.blocks) (few : HasFewPairs (seen s)) (now : IsPhysicalFormed n) (tied_now : IsTied n) (table_now : IsBlockTable n.blocks)
     (p : Placing stamp (λ at. set s.held.items at.name x) answer (seen s) (seen n)) where
-  same_left : left_of (seen n) ≡ left_of (seen s)
+  same_left : left_in_victim (seen n) ≡ left_in_victim (seen s)
   same_left = left_same s n is tied table now tied_now table_now p.pages.same_size p.names.same_victim (placed_same answer stamp x (seen s) (seen n) p)
 
   pub placed_few : HasFewPairs (seen n)
@@ -147,13 +147,13 @@ module _ (answer : Named) (stamp : ℕ) (x : Option Held) (s n : Kept) (is : IsF
       p.frees
 
   pub placed_spare : {M : Type 0} {clock : M → ℕ} {contents : M → Image} {left : M → ℕ → Image → Type 0} {tag : Tag} {number : ℕ} {main : List ℕ} {a b : M} → Crashes clock contents left (seen s) tag number main a b answer
-      → HasSpare (contents a) (seen s) → HasSpare (contents b) (seen n)
+      → CanSpareBlock (contents a) (seen s) → CanSpareBlock (contents b) (seen n)
   placed_spare {contents = contents} {a = a} {b = b} k spare = ⊎_elim
       (λ same. placed_spares answer stamp x (seen s) (seen n) p same.1 same.2 (contents a) (contents b) (still_page k) spare)
       (λ some. free_spare n now (omega (arith, some)) (contents b))
       p.frees
 
-  placed_writes : Writes stamp answer (seen s) (seen n)
+  placed_writes : WritesSegment stamp answer (seen s) (seen n)
   placed_writes = record {
     pages = p.pages;
     placed = p.placed;
@@ -167,7 +167,7 @@ module _ (answer : Named) (stamp : ℕ) (x : Option Held) (s n : Kept) (is : IsF
   }
 
 -- what a write does, where the page that it placed holds this owner and this number
-pub placed_adds : (answer : Named) (tag : Tag) (stamp : ℕ) (s n : Kept) → IsFormed s → IsTied s → IsTable s.blocks → HasFewPairs (seen s) → IsFormed n → IsTied n → IsTable n.blocks
+pub placed_adds : (answer : Named) (tag : Tag) (stamp : ℕ) (s n : Kept) → IsPhysicalFormed s → IsTied s → IsBlockTable s.blocks → HasFewPairs (seen s) → IsPhysicalFormed n → IsTied n → IsBlockTable n.blocks
     → Placing stamp (λ at. set s.held.items at.name (Some (record { tag = tag; stamp = stamp }))) answer (seen s) (seen n) → AddsPage tag stamp answer (seen s) (seen n)
 placed_adds answer tag stamp s n is tied table few now tied_now table_now p =
     let x : Option Held = Some (record { tag = tag; stamp = stamp }) in

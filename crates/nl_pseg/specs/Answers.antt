@@ -28,19 +28,19 @@ is_placed write.NotLive = false
 is_placed write.NoPage = false
 is_placed write.Fault = false
 
-abbrev pub IsFault : Named → Type 0
-IsFault answer = answer ≡ write.Fault
+abbrev pub IsWriteFault : Named → Type 0
+IsWriteFault answer = answer ≡ write.Fault
 
 -- the write placed a page, or the medium failed
-abbrev pub IsTried : Named → Type 0
-IsTried (write.Placed at) = ⊤
-IsTried write.NotLive = ⊥
-IsTried write.NoPage = ⊥
-IsTried write.Fault = ⊤
+abbrev pub ReachedMedium : Named → Type 0
+ReachedMedium (write.Placed at) = ⊤
+ReachedMedium write.NotLive = ⊥
+ReachedMedium write.NoPage = ⊥
+ReachedMedium write.Fault = ⊤
 
 -- where it placed a page, it named this one, under this write sequence number
-abbrev pub Names : ℕ → ℕ → Named → Type 0
-Names page stamp answer = IfPlaced answer (λ at. at ≡ record { name = page; stamp = stamp })
+abbrev pub NamesPage : ℕ → ℕ → Named → Type 0
+NamesPage page stamp answer = IfPlaced answer (λ at. at ≡ record { name = page; stamp = stamp })
 
 -- What a read answers of a page that holds this, and what the buffer then has: NotLive exactly where nothing of that number is
 -- live. Done where the page read has the owner and the number that were asked for, and the live page has that owner. Lost with

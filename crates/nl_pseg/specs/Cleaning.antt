@@ -9,13 +9,13 @@ use Rattle.nl_field.specs.declared.answers.Named.TheVariants as named
 use Rattle.nl_pseg.specs.Effects.{Crashes}
 use Rattle.nl_pseg_pages.specs.Pages.{IsUnreadable, main_of}
 use Rattle.nl_pseg.specs.Segment.{InVictim, IsDead, IsOldName, Physical, erasures, held_at, is_free, is_kept, is_sealed, is_waiting, room, soiled, wear_of, CountsErases}
-use Rattle.nl_pseg.specs.Space.{HasRoomForVictim, dead_in, dead_pages, landing, left_of, reach, victims, waiting}
+use Rattle.nl_pseg.specs.Space.{HasRoomForVictim, dead_in, dead_pages, landing, left_in_victim, reach, victims, waiting}
 use Rattle.nl_pseg.specs.declared.cleaned.Copied.{Copied}
 use Rattle.nl_pseg.specs.declared.cleaned.Copied.TheVariants as copy
 use Rattle.nl_pseg.specs.declared.held.Held.{Held}
 
 -- two segments have the same pages and names
-pub record SameTables (old new : Physical) : Type 0 where
+pub record SamePhysicalTables (old new : Physical) : Type 0 where
   pub same_first : new.first ≡ old.first
   pub same_blocks : new.blocks ≡ old.blocks
   pub same_size : new.size ≡ old.size
@@ -56,8 +56,8 @@ abbrev pub CannotBegin : Bool → Physical → Type 0
 CannotBegin cold seg = (victims seg ≡ 1) ⊎ ((2 * seg.size < length seg.pairs) ⊎ ((seg.free ≡ 0) ⊎ NoneChosen cold seg))
 
 -- The block is the victim now, and nothing else changed.
-pub record Begins (block : ℕ) (old new : Physical) : Type 0 where
-  pub tables : SameTables old new
+pub record BeginsBlock (block : ℕ) (old new : Physical) : Type 0 where
+  pub tables : SamePhysicalTables old new
   pub none : old.victim ≡ None
   pub few : length old.pairs ≤ 2 * old.size
   pub victim : new.victim ≡ Some block
@@ -71,14 +71,14 @@ pub record Begins (block : ℕ) (old new : Physical) : Type 0 where
   pub same_soiled : (other : ℕ) → soiled new other ≡ soiled old other
   pub waits : (other : ℕ) → is_waiting new other ≡ is_waiting old other
   pub same_waiting : waiting new ≡ waiting old
-  pub left : left_of new + dead_in old block ≡ old.size
+  pub left : left_in_victim new + dead_in old block ≡ old.size
   pub dead : dead_pages new + dead_in old block ≡ dead_pages old
   pub gains : reach new ≡ reach old + dead_in old block
   pub lands : HasRoomForVictim new
 
 -- A live page of the victim was moved: it is live at another page, all names that led to it lead there, and its number is an old name.
 -- No other page changed, and no page that is taken for new names but those of one Free block.
-pub record Moves (before after : ℕ) (h : Held) (old new : Physical) : Type 0 where
+pub record MovesLivePage (before after : ℕ) (h : Held) (old new : Physical) : Type 0 where
   pub same_first : new.first ≡ old.first
   pub same_blocks : new.blocks ≡ old.blocks
   pub same_size : new.size ≡ old.size
@@ -94,7 +94,7 @@ pub record Moves (before after : ℕ) (h : Held) (old new : Physical) : Type 0 w
   pub pair_room : new.pair_room + 1 ≡ old.pair_room
   pub victim : new.victim ≡ old.victim
   pub same_waiting : waiting new ≡ waiting old
-  pub left : left_of new + 1 ≡ left_of old
+  pub left : left_in_victim new + 1 ≡ left_in_victim old
   pub same_reach : reach new ≡ reach old
   pub lands : HasRoomForVictim old → HasRoomForVictim new
   pub wears : CountsErases old new
@@ -104,11 +104,11 @@ pub record Moves (before after : ℕ) (h : Held) (old new : Physical) : Type 0 w
 
 -- No page was moved: pages and names are as they were, and where a program or an erase failed a page for copies may be lost.
 pub record MovesNone (old new : Physical) : Type 0 where
-  pub tables : SameTables old new
+  pub tables : SamePhysicalTables old new
   pub same_wear : (block : ℕ) → wear_of new block ≡ wear_of old block
   pub victim : new.victim ≡ old.victim
   pub same_waiting : waiting new ≡ waiting old
-  pub left : left_of new ≡ left_of old
+  pub left : left_in_victim new ≡ left_in_victim old
   pub wears : CountsErases old new
   pub less_landing : landing new ≤ landing old
   pub landing_most : landing old ≤ landing new + 1
@@ -150,10 +150,10 @@ abbrev pub KeepsBeside : Physical → ℕ → Image → Image → Type 0
 KeepsBeside seg block old c = (page : ℕ) → (page_at c page ≡ page_at old page) ⊎ ((page / seg.size ≡ block) × IsUnreadable (page_at c page))
 
 -- The victim is erased: it is Free, or waits for the names that stand in it. Pages, names and pairs are as they were.
-pub record Erases (block : ℕ) (old new : Physical) : Type 0 where
-  pub tables : SameTables old new
+pub record ErasesBlock (block : ℕ) (old new : Physical) : Type 0 where
+  pub tables : SamePhysicalTables old new
   pub was : old.victim ≡ Some block
-  pub none_left : left_of old ≡ 0
+  pub none_left : left_in_victim old ≡ 0
   pub victim : new.victim ≡ None
   pub next : (new.next ≡ old.next) × (new.left ≡ old.left)
   pub copies : (new.copy_next ≡ old.copy_next) × (new.copy_left ≡ old.copy_left)
@@ -167,7 +167,7 @@ pub record Erases (block : ℕ) (old new : Physical) : Type 0 where
   pub same_soiled : (other : ℕ) → (other ≡ block → ⊥) → soiled new other ≡ soiled old other
   pub wear : erasures new block ≡ worn (erasures old block)
   pub wears : (other : ℕ) → (other ≡ block → ⊥) → erasures new other ≡ erasures old other
-  pub left : left_of new ≡ 0
+  pub left : left_in_victim new ≡ 0
   pub same_reach : reach new ≡ reach old
   pub more_room : room old ≤ room new
 

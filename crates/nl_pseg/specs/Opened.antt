@@ -2,14 +2,14 @@
 use Rattle.std.specs.Prelude.{◌≡◌, ℕ, ◌+◌, ◌*◌, ◌/◌, ◌<◌, ◌≤◌, true, false, cond, [], replicate, slice_set, Some, None}
 use Rattle.nl_field.specs.Page.{Image}
 use Rattle.nl_field.specs.declared.shape.Shape.{Shape}
-use Rattle.nl_pseg.specs.Segment.{HasSpare, InSegment, IsClean, IsNext, IsNextCopy, KeepsBlock, Physical, TakenAsErased, erasures, is_free, is_kept, is_waiting, room, soiled}
+use Rattle.nl_pseg.specs.Segment.{CanSpareBlock, InSegment, IsClean, IsNextToProgram, IsNextCopy, KeepsBlock, Physical, TakenAsErased, erasures, is_free, is_kept, is_waiting, room, soiled}
 use Rattle.nl_pseg.specs.Space.{IsWhole}
 use Rattle.nl_pseg.specs.Steps.{SameRange}
 use Rattle.nl_pseg.specs.declared.held.Held.{Held}
 
 -- A segment of this shape of which nothing was used: every block is Free, no page is live, there is no pair, no victim is in hand,
 -- and every page is taken as erased.
-pub record IsNew (shape : Shape) (seg : Physical) : Type 0 where
+pub record IsNewSegment (shape : Shape) (seg : Physical) : Type 0 where
   pub first : seg.first ≡ shape.vblocks
   pub blocks : seg.blocks ≡ shape.blocks
   pub pages : seg.size ≡ shape.pages
@@ -27,7 +27,7 @@ pub record IsNew (shape : Shape) (seg : Physical) : Type 0 where
   pub clean : IsClean seg
   pub kept : KeepsBlock seg
   pub whole : IsWhole seg
-  pub spare : (image : Image) → HasSpare image seg
+  pub spare : (image : Image) → CanSpareBlock image seg
 
 -- The page holds this, and nothing more is programmed in its block.
 pub record LoadsPage (page : ℕ) (h : Held) (old new : Physical) : Type 0 where
@@ -41,7 +41,7 @@ pub record LoadsPage (page : ℕ) (h : Held) (old new : Physical) : Type 0 where
   pub left : new.left ≤ old.left
   pub same_soiled : new.soiled ≡ old.soiled
   pub wears : (block : ℕ) → erasures new block ≡ erasures old block
-  pub next : (p : ℕ) → IsNext new p → IsNext old p
+  pub next : (p : ℕ) → IsNextToProgram new p → IsNextToProgram old p
   pub copies : (p : ℕ) → IsNextCopy new p → IsNextCopy old p
   pub erased : (p : ℕ) → TakenAsErased new p → TakenAsErased old p × (p / old.size ≡ page / old.size → ⊥)
   pub still : (p : ℕ) → TakenAsErased old p → (p / old.size ≡ page / old.size → ⊥) → TakenAsErased new p
@@ -60,7 +60,7 @@ pub record Soils (block wear : ℕ) (old new : Physical) : Type 0 where
   pub others_told : (other : ℕ) → (other ≡ block → ⊥) → soiled new other ≡ soiled old other
   pub worn : erasures new block ≡ wear
   pub others_worn : (other : ℕ) → (other ≡ block → ⊥) → erasures new other ≡ erasures old other
-  pub next : (p : ℕ) → IsNext new p → IsNext old p
+  pub next : (p : ℕ) → IsNextToProgram new p → IsNextToProgram old p
   pub copies : (p : ℕ) → IsNextCopy new p → IsNextCopy old p × (p / old.size ≡ block → ⊥)
   pub erased : (p : ℕ) → TakenAsErased new p → TakenAsErased old p × (p / old.size ≡ block → ⊥)
   pub still : (p : ℕ) → TakenAsErased old p → (p / old.size ≡ block → ⊥) → TakenAsErased new p

@@ -11,13 +11,13 @@ use Rattle.nl_remap.specs.Links.{HasLink}
 use Rattle.nl_remap.specs.Table.{IsOld, IsRemap, told}
 use Rattle.nl_remap.specs.declared.links.Link.{Link}
 use Rattle.nl_pseg_names.specs.OldNames.{names_among}
-use Rattle.nl_pseg.specs.Segment.{Physical, Row, InSegment, IsNext, IsNextCopy, held_at}
-use Rattle.nl_pseg_blocks.specs.Uses.{AreRising, use_at, use_of, use_with}
+use Rattle.nl_pseg.specs.Segment.{Physical, CleaningRow, InSegment, IsNextToProgram, IsNextCopy, held_at}
+use Rattle.nl_pseg_blocks.specs.Uses.{ActiveAndTargetAreRisen, use_at, use_of, use_with}
 use Rattle.nl_pseg.specs.declared.held.Held.{Held}
 use Rattle.nl_pseg.specs.Kept.{Kept}
 
 -- what cleaning knows of a block
-abbrev pub row_of : BlockRow → Row
+abbrev pub row_of : BlockRow → CleaningRow
 row_of row = record { state = row.state; dead = dead_count row }
 
 abbrev pub seen : Kept → Physical
@@ -60,14 +60,14 @@ new_segment shape = record {
 }
 
 -- A live page is one of the segment, in a block that is neither Free nor waits to be, and not one of those that are programmed next.
-pub record IsPlace (seg : Physical) (page : ℕ) (h : Held) : Type 0 where
+pub record IsLivePlace (seg : Physical) (page : ℕ) (h : Held) : Type 0 where
   pub within : InSegment seg page
   pub in_use : (use_at seg.first seg.uses (page / seg.size)).is_kept ≡ false
-  pub behind : IsNext seg page → ⊥
+  pub behind : IsNextToProgram seg page → ⊥
   pub spelled : IsTrue (is_stamp h.stamp)
 
-pub record ArePlaces (seg : Physical) : Type 0 where
-  pub each : (page : ℕ) (h : Held) → held_at seg page ≡ Some h → IsPlace seg page h
+pub record AreLivePlaces (seg : Physical) : Type 0 where
+  pub each : (page : ℕ) (h : Held) → held_at seg page ≡ Some h → IsLivePlace seg page h
 
 abbrev pub state_for : Option Held → PageState
 state_for None = Dead
@@ -75,13 +75,13 @@ state_for (Some h) = Live
 
 -- Each page is marked as it is: live, or dead. Where pages are still to be used they are marked in rising order.
 pub record AreMarked (table : Table) (held : List (Option Held)) : Type 0 where
-  pub rising : AreRising table
+  pub rising : ActiveAndTargetAreRisen table
   pub each : (page : ℕ) → HasPage table page → (page_at table page).state ≡ state_for (slice_index_or held page None)
 
 -- An old name is that of a page in a block that is not Free, and not one of those that are programmed next.
-pub record IsStanding (seg : Physical) (name : ℕ) : Type 0 where
+pub record IsOldNameInUse (seg : Physical) (name : ℕ) : Type 0 where
   pub in_use : (use_at seg.first seg.uses (name / seg.size)).is_free ≡ false
-  pub behind : IsNext seg name → ⊥
+  pub behind : IsNextToProgram seg name → ⊥
   pub copy_behind : IsNextCopy seg name → ⊥
 
 -- The pairs of the state: each old name stands, and is no live page; each pair leads to a live page; a block that waits for its names
@@ -91,7 +91,7 @@ pub record IsNamed (s : Kept) : Type 0 where
   pub blocks : s.names.blocks ≡ s.blocks.first + length s.blocks.blocks
   pub room : length s.names.pairs + s.names.room ≡ 4 * s.blocks.size
   pub remap : IsRemap s.names.pairs
-  pub standing : (name : ℕ) → IsOld s.names.pairs name → IsStanding (seen s) name
+  pub standing : (name : ℕ) → IsOld s.names.pairs name → IsOldNameInUse (seen s) name
   pub own : (page : ℕ) (h : Held) → held_at (seen s) page ≡ Some h → IsOld s.names.pairs page → ⊥
   pub to_live : (pair : Link) → HasLink s.names.pairs pair → (h : Held) × (held_at (seen s) pair.to ≡ Some h)
   pub waits : (block names : ℕ) → HasBlock s.blocks block → (block_at s.blocks block).state ≡ Retired names
@@ -111,7 +111,7 @@ pub record HasPhases (s : Kept) : Type 0 where
   pub victim_in : (block : ℕ) → s.victim ≡ Some block → HasBlock s.blocks block × ((block_at s.blocks block).state ≡ Victim)
 
 -- what holds of every state
-pub record IsFormed (s : Kept) : Type 0 where
+pub record IsPhysicalFormed (s : Kept) : Type 0 where
   pub some : 0 < s.blocks.size
   pub numbers : (s.blocks.first + length s.blocks.blocks) * s.blocks.size < 2 ^ 32
   pub pages : length s.held.items ≡ (s.blocks.first + length s.blocks.blocks) * s.blocks.size
@@ -119,11 +119,11 @@ pub record IsFormed (s : Kept) : Type 0 where
   pub active_in : HasBlock s.blocks s.active
   pub used_fits : s.used ≤ s.blocks.size
   pub taken : s.used < s.blocks.size → (block_at s.blocks s.active).state ≡ Active
-  pub places : ArePlaces (seen s)
+  pub places : AreLivePlaces (seen s)
   pub marked : AreMarked s.blocks s.held.items
 
 -- the medium has the pages of the segment's blocks, and at least as many blocks
-pub record Fits (geometry : Geometry) (seg : Physical) : Type 0 where
+pub record FitsPhysical (geometry : Geometry) (seg : Physical) : Type 0 where
   pub pages : geometry.pages ≡ seg.size
   pub blocks : seg.blocks ≤ geometry.blocks
 

@@ -11,7 +11,7 @@ use Rattle.nl_pseg.specs.declared.held.Held.{Held}
 use Rattle.nl_pseg_blocks.specs.Uses.{Use, use_at}
 
 -- What cleaning knows of a block: what it is used for, and how many of its pages are not live.
-pub record Row : Type 0 where
+pub record CleaningRow : Type 0 where
   pub state : BlockState
   pub dead : ℕ
 
@@ -43,16 +43,16 @@ pub record Physical : Type 0 where
   -- the block whose live pages are moved away
   pub victim : Option ℕ
   -- what cleaning knows of each block of the segment
-  pub rows : List Row
+  pub rows : List CleaningRow
 
-abbrev pub no_row : Row
+abbrev pub no_row : CleaningRow
 no_row = record { state = Sealed; dead = 0 }
 
 -- what is known of a block, where the list begins with that of block `first`
-unfoldable pub row_in : ℕ → List Row → ℕ → Row
+unfoldable pub row_in : ℕ → List CleaningRow → ℕ → CleaningRow
 row_in first rows block = if nat_le first block then slice_index_or rows (block - first) no_row else no_row
 
-abbrev pub row_at : Physical → ℕ → Row
+abbrev pub row_at : Physical → ℕ → CleaningRow
 row_at seg block = row_in seg.first seg.rows block
 
 -- the block is not given out until old names in it are gone
@@ -172,16 +172,16 @@ abbrev pub IsClean : Physical → Type 0
 IsClean seg = (block : ℕ) → is_kept seg block ≡ true → is_soiled seg block ≡ false
 
 -- the page for the next new name is programmed with no erase before it
-abbrev pub IsReady : Physical → Type 0
-IsReady seg = (0 < seg.left) ⊎ IsClean seg
+abbrev pub NeedsNoErase : Physical → Type 0
+NeedsNoErase seg = (0 < seg.left) ⊎ IsClean seg
 
 -- the page is one of those that are programmed next
-abbrev pub IsNext : Physical → ℕ → Type 0
-IsNext seg page = (seg.next ≤ page) × (page < seg.next + seg.left)
+abbrev pub IsNextToProgram : Physical → ℕ → Type 0
+IsNextToProgram seg page = (seg.next ≤ page) × (page < seg.next + seg.left)
 
 -- the segment takes the page as erased
 abbrev pub TakenAsErased : Physical → ℕ → Type 0
-TakenAsErased seg page = IsNext seg page ⊎ ((is_kept seg (page / seg.size) ≡ true) × (is_soiled seg (page / seg.size) ≡ false))
+TakenAsErased seg page = IsNextToProgram seg page ⊎ ((is_kept seg (page / seg.size) ≡ true) × (is_soiled seg (page / seg.size) ≡ false))
 
 -- the page is one of those that the next copies are programmed on
 abbrev pub IsNextCopy : Physical → ℕ → Type 0
@@ -195,16 +195,16 @@ pub record IsPhysicalOf (image : Image) (seg : Physical) : Type 0 where
   pub blank_copy : (page : ℕ) → IsNextCopy seg page → page_at image page ≡ erased
 
 -- Some block can be done without on this image: no page of it is programmed next, and each live page of it stands in the victim too.
-pub record HasSpare (image : Image) (seg : Physical) : Type 0 where
+pub record CanSpareBlock (image : Image) (seg : Physical) : Type 0 where
   pub block : ℕ
   pub from : seg.first ≤ block
   pub below : block < seg.blocks
-  pub idle : (page : ℕ) → IsNext seg page → page / seg.size ≡ block → ⊥
+  pub idle : (page : ℕ) → IsNextToProgram seg page → page / seg.size ≡ block → ⊥
   pub copied : (page : ℕ) (h : Held) → held_at seg page ≡ Some h → page / seg.size ≡ block
       → (q : ℕ) × InVictim seg q × (q / seg.size ≡ block → ⊥) × (shown_by (page_at image q) ≡ shown_by (page_at image page))
 
 -- two segments have the same blocks and pages, and the same wear of each block
-pub record SamePages (old new : Physical) : Type 0 where
+pub record SameBlocksAndPages (old new : Physical) : Type 0 where
   pub same_first : new.first ≡ old.first
   pub same_blocks : new.blocks ≡ old.blocks
   pub same_size : new.size ≡ old.size

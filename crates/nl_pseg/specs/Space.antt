@@ -2,7 +2,7 @@
 use Rattle.std.specs.Prelude.{◌≡◌, ◌⊎◌, ℕ, ◌+◌, ◌-◌, ◌*◌, ◌/◌, ◌≤◌, ◌&&◌, not, true, false, cond, List, length, sum_by, count_by, Contains, AllPairs, Option, Some, is_some, option_map, unwrap_or}
 use Rattle.std.specs.List.{range_with_len}
 use Rattle.nl_blocks.specs.Table.{is_sealed_state}
-use Rattle.nl_pseg.specs.Segment.{InSegment, InVictim, IsOldName, IsUnspent, KeepsBlock, Physical, IsNext, IsNextCopy, TakenAsErased, held_at, is_free, is_kept, is_waiting, room, row_at, soiled, SameErasures}
+use Rattle.nl_pseg.specs.Segment.{InSegment, InVictim, IsOldName, IsUnspent, KeepsBlock, Physical, IsNextToProgram, IsNextCopy, TakenAsErased, held_at, is_free, is_kept, is_waiting, room, row_at, soiled, SameErasures}
 use Rattle.nl_pseg.specs.declared.held.Held.{Held}
 
 -- how many pages are live
@@ -22,8 +22,8 @@ abbrev pub waiting : Physical → ℕ
 waiting seg = count_by (λ u. u.is_kept && not u.is_free) seg.uses
 
 -- live pages of the victim
-abbrev pub left_of : Physical → ℕ
-left_of seg = unwrap_or (option_map (λ block. seg.size - dead_in seg block) seg.victim) 0
+abbrev pub left_in_victim : Physical → ℕ
+left_in_victim seg = unwrap_or (option_map (λ block. seg.size - dead_in seg block) seg.victim) 0
 
 -- pages of the victim that are not live
 abbrev pub gain_of : Physical → ℕ
@@ -43,16 +43,16 @@ dead_pages seg = sum_by (λ row. cond (is_sealed_state row.state) row.dead 0) se
 
 -- The segment has room for its victim: its live pages can be copied.
 abbrev pub HasRoomForVictim : Physical → Type 0
-HasRoomForVictim seg = left_of seg ≤ landing seg
+HasRoomForVictim seg = left_in_victim seg ≤ landing seg
 
 -- With a victim in hand there are at most 3 pairs for each page of a block, its live pages counted with them.
 abbrev pub HasFewPairs : Physical → Type 0
-HasFewPairs seg = victims seg ≡ 1 → length seg.pairs + left_of seg ≤ 3 * seg.size
+HasFewPairs seg = victims seg ≡ 1 → length seg.pairs + left_in_victim seg ≤ 3 * seg.size
 
 -- What holds of each segment, of its pages: what is live or taken as erased lies in the segment; a live page is in a block that is in
 -- use, and its number is no old name; each pair leads to a live page, and old names differ; no old name stands in a block that is
 -- Free; no page that is programmed next is in the victim.
-pub record HasPages (seg : Physical) : Type 0 where
+pub record PagesAreInSegment (seg : Physical) : Type 0 where
   pub live_within : (page : ℕ) (h : Held) → held_at seg page ≡ Some h → InSegment seg page
   pub erased_within : (page : ℕ) → TakenAsErased seg page → InSegment seg page
   pub copies_within : (page : ℕ) → IsNextCopy seg page → InSegment seg page
@@ -61,7 +61,7 @@ pub record HasPages (seg : Physical) : Type 0 where
   pub to_live : (name target : ℕ) → Contains seg.pairs (name, target) → (h : Held) × (held_at seg target ≡ Some h)
   pub one_target : AllPairs (λ (p q : ℕ × ℕ). p.0 ≡ q.0 → ⊥) seg.pairs
   pub no_name_free : (name : ℕ) → IsOldName seg name → is_free seg (name / seg.size) ≡ true → ⊥
-  pub victim_idle : (page : ℕ) → IsNext seg page → InVictim seg page → ⊥
+  pub victim_idle : (page : ℕ) → IsNextToProgram seg page → InVictim seg page → ⊥
 
 -- What holds of each segment, of its numbers: each live page of a victim is counted; there are at most 4 pairs for each page of a
 -- block, and with a victim in hand at most 3 with its live pages; a block that waits has a name; the blocks that are kept for the
@@ -70,8 +70,8 @@ pub record HasPages (seg : Physical) : Type 0 where
 pub record HasNumbers (seg : Physical) : Type 0 where
   pub left : seg.left ≤ seg.size
   pub copy_left : seg.copy_left ≤ seg.size
-  pub victim : left_of seg + gain_of seg ≡ victims seg * seg.size
-  pub none_left : left_of seg ≡ 0 → (page : ℕ) (h : Held) → held_at seg page ≡ Some h → InVictim seg page → ⊥
+  pub victim : left_in_victim seg + gain_of seg ≡ victims seg * seg.size
+  pub none_left : left_in_victim seg ≡ 0 → (page : ℕ) (h : Held) → held_at seg page ≡ Some h → InVictim seg page → ⊥
   pub pairs : length seg.pairs + seg.pair_room ≡ 4 * seg.size
   pub busy : HasFewPairs seg
   pub few_wait : waiting seg ≤ length seg.pairs
@@ -81,7 +81,7 @@ pub record HasNumbers (seg : Physical) : Type 0 where
       → (seg.blocks - seg.first) * seg.size ≤ live_in seg.held + dead_pages seg + (seg.free + 2) * seg.size
 
 pub record IsWhole (seg : Physical) : Type 0 where
-  pub pages : HasPages seg
+  pub pages : PagesAreInSegment seg
   pub numbers : HasNumbers seg
 
 -- nothing of cleaning changed
@@ -90,7 +90,7 @@ pub record SameCleaning (old new : Physical) : Type 0 where
   pub copies : (new.copy_next ≡ old.copy_next) × (new.copy_left ≡ old.copy_left)
   pub waits : (block : ℕ) → is_waiting new block ≡ is_waiting old block
   pub same_waiting : waiting new ≡ waiting old
-  pub left : left_of new ≡ left_of old
+  pub left : left_in_victim new ≡ left_in_victim old
   pub gain : gain_of new ≡ gain_of old
 
 -- Pages are live no longer, so many of them at most, and pairs to them are gone. A block that waited for their names alone is Free.
@@ -98,13 +98,13 @@ pub record Lessens (gone : ℕ) (old new : Physical) : Type 0 where
   pub victim : new.victim ≡ old.victim
   pub copies : (new.copy_next ≡ old.copy_next) × (new.copy_left ≡ old.copy_left)
   pub fewer_wait : waiting new ≤ waiting old
-  pub left : left_of new ≤ left_of old
-  pub left_most : left_of old ≤ left_of new + gone
+  pub left : left_in_victim new ≤ left_in_victim old
+  pub left_most : left_in_victim old ≤ left_in_victim new + gone
   pub lands : HasRoomForVictim old → HasRoomForVictim new
 
 -- A page is live no longer, or a name is gone: no page is given out. A block that waited for names that are gone is Free, with the
 -- pages that it had.
-pub record GivesBack (old new : Physical) : Type 0 where
+pub record GivesBackBlocks (old new : Physical) : Type 0 where
   pub next : new.next ≡ old.next
   pub left : new.left ≡ old.left
   pub soiled : (block : ℕ) → soiled new block ≡ soiled old block

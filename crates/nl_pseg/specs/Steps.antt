@@ -9,12 +9,12 @@ use Rattle.nl_field.specs.declared.pointer.Tag.{Tag}
 use Rattle.nl_nand.specs.declared.answers.WriteAnswer.{WriteAnswer}
 use Rattle.nl_nand.specs.declared.answers.WriteAnswer.TheVariants as wrote
 use Rattle.nl_blocks.specs.Table.{Table, HasBlock, block_at}
-use Rattle.nl_pseg.specs.Answers.{IfPlaced, IsFault, IsPlaced}
-use Rattle.nl_pseg.specs.Effects.{Keeps}
-use Rattle.nl_pseg.specs.Segment.{InSegment, Physical, IsClean, IsDead, IsNext, IsNextCopy, IsPhysicalOf, IsReady, IsSpent, IsUnspent, KeepsBlock, SameNames, SamePages, TakenAsErased, erasures, is_free, is_kept, is_soiled, is_waiting, soiled, without_target, names_another_free, IsOldName, CountsErases}
-use Rattle.nl_pseg.specs.Space.{gain_of, landing, left_of, waiting}
+use Rattle.nl_pseg.specs.Answers.{IfPlaced, IsWriteFault, IsPlaced}
+use Rattle.nl_pseg.specs.Effects.{PreservesSegment}
+use Rattle.nl_pseg.specs.Segment.{InSegment, Physical, IsClean, IsDead, IsNextToProgram, IsNextCopy, IsPhysicalOf, NeedsNoErase, IsSpent, IsUnspent, KeepsBlock, SameNames, SameBlocksAndPages, TakenAsErased, erasures, is_free, is_kept, is_soiled, is_waiting, soiled, without_target, names_another_free, IsOldName, CountsErases}
+use Rattle.nl_pseg.specs.Space.{gain_of, landing, left_in_victim, waiting}
 use Rattle.nl_pseg.specs.Seen.{IsTied}
-use Rattle.nl_pseg_blocks.specs.Uses.{IsPut, Restated, aside_state, use_at, use_in}
+use Rattle.nl_pseg_blocks.specs.Uses.{IsPut, SetsUse, aside_state, use_at, use_in}
 use Rattle.nl_pseg.specs.declared.held.Held.{Held}
 use Rattle.nl_pseg.specs.Kept.{Kept}
 
@@ -25,7 +25,7 @@ pub record SameRange (old new : Physical) : Type 0 where
   pub range_size : new.size ≡ old.size
 
 -- nothing more is programmed in this block, and the pages of another one that are programmed next are the same
-pub record IsIdle (block : ℕ) (old new : Kept) : Type 0 where
+pub record ClosesBlock (block : ℕ) (old new : Kept) : Type 0 where
   pub active : new.active ≡ old.active
   pub target : new.target ≡ old.target
   pub used : ((block ≡ old.active) × (new.used ≡ old.blocks.size)) ⊎ ((block ≡ old.active → ⊥) × (new.used ≡ old.used))
@@ -34,7 +34,7 @@ pub record IsIdle (block : ℕ) (old new : Kept) : Type 0 where
 -- The block is set aside for one old name more, where it is one of the table.
 pub record IsAside (block : ℕ) (old new : Kept) : Type 0 where
   pub same : new ≡ record old { blocks = new.blocks; used = new.used; filled = new.filled }
-  pub idle : IsIdle block old new
+  pub idle : ClosesBlock block old new
   pub put : IsPut block (aside_state (block_at old.blocks block).state) old.blocks new.blocks
 
 -- The name leads to this page. Nothing more is programmed in the block of the name, which waits for it where it was Free.
@@ -53,13 +53,13 @@ pub record LeadsFrom (name page : ℕ) (old new : Physical) : Type 0 where
   pub free : new.free + cond (is_free old (name / old.size)) 1 0 ≡ old.free
   pub soiled : new.soiled ≡ old.soiled
   pub left : new.left ≤ old.left
-  pub next : (p : ℕ) → IsNext new p → IsNext old p
-  pub still : (p : ℕ) → IsNext old p → (p / old.size ≡ name / old.size → ⊥) → IsNext new p
+  pub next : (p : ℕ) → IsNextToProgram new p → IsNextToProgram old p
+  pub still : (p : ℕ) → IsNextToProgram old p → (p / old.size ≡ name / old.size → ⊥) → IsNextToProgram new p
   pub copies : (p : ℕ) → IsNextCopy new p → IsNextCopy old p
 
 -- The page holds what the pointer and the owner say. Nothing more is programmed in its block, nor in that of the pointer's name where
 -- this is another page: then the name leads to the page, and a block of it that was Free waits.
-pub record Loads (page : ℕ) (at : Pointer) (tag : Tag) (old new : Physical) : Type 0 where
+pub record LoadsHeldPage (page : ℕ) (at : Pointer) (tag : Tag) (old new : Physical) : Type 0 where
   pub held : new.held ≡ slice_set old.held page (Some (record { tag = tag; stamp = at.stamp }))
   pub leads : resolve new.pairs at.name ≡ page
   pub ways : (name : ℕ) → (name ≡ at.name → ⊥) → resolve new.pairs name ≡ resolve old.pairs name
@@ -78,7 +78,7 @@ pub record Loads (page : ℕ) (at : Pointer) (tag : Tag) (old new : Physical) : 
   pub wears : (block : ℕ) → erasures new block ≡ erasures old block
   pub erased : (p : ℕ) → TakenAsErased new p → TakenAsErased old p × (p / old.size ≡ page / old.size → ⊥)
   pub still : (p : ℕ) → TakenAsErased old p → (p / old.size ≡ page / old.size → ⊥)
-      → (IsNext old p → p / old.size ≡ at.name / old.size → ⊥) → TakenAsErased new p
+      → (IsNextToProgram old p → p / old.size ≡ at.name / old.size → ⊥) → TakenAsErased new p
   pub copies : (p : ℕ) → IsNextCopy new p → IsNextCopy old p
 
 -- A block was taken that was Free, where the block that was written to is full, and no page of it is used.
@@ -86,7 +86,7 @@ pub record IsTaking (s : Kept) (block : ℕ) : Type 0 where
   pub table : Table
   pub wear : ℕ
   pub tied : IsTied (record s { blocks = table })
-  pub restated : Restated block false wear table s.blocks
+  pub restated : SetsUse block false wear table s.blocks
   pub had : HasBlock table block
   pub was_free : (use_in table block).is_free ≡ true
   pub full : s.blocks.size ≤ s.used
@@ -107,7 +107,7 @@ pub record IsGivenBack (block : ℕ) (old new : Physical) : Type 0 where
   pub same : is_free old block ≡ true → new ≡ old
 
 -- Names are gone: a block that waited for them may be Free. No page is given out.
-pub record NamesGone (old new : Physical) : Type 0 where
+pub record NamesGoneFromSegment (old new : Physical) : Type 0 where
   pub range : SameRange old new
   pub next : (new.next ≡ old.next) × (new.left ≡ old.left)
   pub copies : (new.copy_next ≡ old.copy_next) × (new.copy_left ≡ old.copy_left)
@@ -123,9 +123,9 @@ pub record NamesGone (old new : Physical) : Type 0 where
   pub fewer : length new.pairs ≤ length old.pairs
 
 -- A page is live no longer, and no name leads to it any more.
-pub record Ends (page : ℕ) (old new : Physical) : Type 0 where
+pub record EndsPage (page : ℕ) (old new : Physical) : Type 0 where
   pub within : InSegment old page
-  pub gone : NamesGone old new
+  pub gone : NamesGoneFromSegment old new
   pub pairs : new.pairs ≡ without_target page old.pairs
   pub held : new.held ≡ slice_set old.held page None
 
@@ -151,8 +151,8 @@ pub record AreGivenBack (end : ℕ) (old new : Physical) : Type 0 where
   pub same : AllFree old → new ≡ old
 
 -- the next page was used: it holds this
-pub record IsUsed (x : Option Held) (old new : Physical) : Type 0 where
-  pub pages : SamePages old new
+pub record UsesNextPage (x : Option Held) (old new : Physical) : Type 0 where
+  pub pages : SameBlocksAndPages old new
   pub held : new.held ≡ slice_set old.held old.next x
   pub next : new.next ≡ old.next + 1
   pub left : new.left + 1 ≡ old.left
@@ -166,8 +166,8 @@ abbrev pub opened_at : Physical → ℕ → Physical
 opened_at seg block = record seg { next = block * seg.size; left = seg.size; soiled = slice_set seg.soiled block None }
 
 -- A Free block is written to now, where none was before.
-pub record IsOpened (block : ℕ) (old new : Physical) : Type 0 where
-  pub pages : SamePages old new
+pub record OpensFreeBlock (block : ℕ) (old new : Physical) : Type 0 where
+  pub pages : SameBlocksAndPages old new
   pub held : new.held ≡ old.held
   pub full : old.left ≡ 0
   pub was_free : is_free old block ≡ true
@@ -186,17 +186,17 @@ pub record IsOpened (block : ℕ) (old new : Physical) : Type 0 where
 
 -- What was done to have a page to program: nothing where there was one, else a Free block is written to. Where it failed, no page
 -- was given out.
-abbrev pub Opening : WriteAnswer → Physical → Physical → Type 0
-Opening wrote.Done old new = ((0 < old.left) × (new ≡ old)) ⊎ ((block : ℕ) × IsOpened block old new)
-Opening wrote.Failed old new = SamePages old new × (new.held ≡ old.held) × IsUnspent old new × (IsReady old → ⊥) × SameNames old new
+abbrev pub OpensForProgram : WriteAnswer → Physical → Physical → Type 0
+OpensForProgram wrote.Done old new = ((0 < old.left) × (new ≡ old)) ⊎ ((block : ℕ) × OpensFreeBlock block old new)
+OpensForProgram wrote.Failed old new = SameBlocksAndPages old new × (new.held ≡ old.held) × IsUnspent old new × (NeedsNoErase old → ⊥) × SameNames old new
 
 -- What was done to the medium to have a page to program: the page that is programmed next is erased, and only pages of its block
 -- have changed, where that had to be erased.
 pub record OpeningOn {M : Type 0} (clock : M → ℕ) (contents : M → Image) (left : M → ℕ → Image → Type 0) (answer : WriteAnswer)
     (seg seg_new : Physical) (old new : M) : Type 0 where
   pub segment : IsPhysicalOf (contents new) seg_new
-  pub keeps : Keeps seg (contents old) (contents new)
-  pub crash : LeavesOnly clock left old new (λ m c. Keeps seg (contents old) c)
+  pub keeps : PreservesSegment seg (contents old) (contents new)
+  pub crash : LeavesOnly clock left old new (λ m c. PreservesSegment seg (contents old) c)
   pub others : answer ≡ wrote.Done → (p : ℕ) → (page_at (contents new) p ≡ page_at (contents old) p)
       ⊎ ((p / seg.size ≡ seg_new.next / seg.size) × (is_free seg (seg_new.next / seg.size) ≡ true)
       × (is_soiled seg (seg_new.next / seg.size) ≡ true) × (page_at (contents new) p ≡ erased))
@@ -204,16 +204,16 @@ pub record OpeningOn {M : Type 0} (clock : M → ℕ) (contents : M → Image) (
 -- No Free block was taken, and a page that was placed is one of those that were programmed next; or another block is Free.
 abbrev pub LeavesFree : Named → Physical → Physical → Type 0
 LeavesFree answer old new =
-    ((new.free ≡ old.free) × ((p : ℕ) → IsNext new p → IsNext old p) × IfPlaced answer (λ at. IsNext old at.name)) ⊎ (1 ≤ new.free)
+    ((new.free ≡ old.free) × ((p : ℕ) → IsNextToProgram new p → IsNextToProgram old p) × IfPlaced answer (λ at. IsNextToProgram old at.name)) ⊎ (1 ≤ new.free)
 
 -- what placing a page does to the segment, where it then has these live pages
 pub record Placing (stamp : ℕ) (now : Pointer → List (Option Held)) (answer : Named) (old new : Physical) : Type 0 where
-  pub pages : SamePages old new
+  pub pages : SameBlocksAndPages old new
   pub placed : IfPlaced answer (λ at. IsDead old at.name × (at.stamp ≡ stamp))
   pub held : IfPlaced answer (λ at. new.held ≡ now at)
   pub same : (IsPlaced answer → ⊥) → new.held ≡ old.held
   pub spent : IsPlaced answer → IsSpent old new
-  pub failed : IsFault answer → IsSpent old new ⊎ (IsUnspent old new × (IsReady old → ⊥))
+  pub failed : IsWriteFault answer → IsSpent old new ⊎ (IsUnspent old new × (NeedsNoErase old → ⊥))
   pub clean : IsClean old → IsClean new
   pub waits : (block : ℕ) → is_waiting new block ≡ is_waiting old block
   pub frees : LeavesFree answer old new
@@ -225,7 +225,7 @@ pub record Placing (stamp : ℕ) (now : Pointer → List (Option Held)) (answer 
 pub record WritesOver (place stamp : ℕ) (now : Pointer → List (Option Held)) (answer : Named) (old new : Physical) : Type 0 where
   pub mid : Physical
   pub placing : Placing stamp now answer old mid
-  pub ended : IsPlaced answer → Ends place mid new
+  pub ended : IsPlaced answer → EndsPage place mid new
   pub none : (IsPlaced answer → ⊥) → new ≡ mid
 
 -- one page was programmed, and no other changed
@@ -238,7 +238,7 @@ pub record IsTargeted (s : Kept) (block : ℕ) : Type 0 where
   pub table : Table
   pub wear : ℕ
   pub tied : IsTied (record s { blocks = table })
-  pub restated : Restated block false wear table s.blocks
+  pub restated : SetsUse block false wear table s.blocks
   pub had : HasBlock table block
   pub was_free : (use_in table block).is_free ≡ true
   pub full : s.blocks.size ≤ s.filled
@@ -249,14 +249,14 @@ aimed_at seg block = record seg { copy_next = block * seg.size; copy_left = seg.
 
 -- A Free block may take copies now: as many copies find a page.
 pub record IsReadied (old new : Physical) : Type 0 where
-  pub pages : SamePages old new
+  pub pages : SameBlocksAndPages old new
   pub held : new.held ≡ old.held
   pub pairs : new.pairs ≡ old.pairs
   pub pair_room : new.pair_room ≡ old.pair_room
   pub victim : new.victim ≡ old.victim
   pub next : (new.next ≡ old.next) × (new.left ≡ old.left)
   pub waits : waiting new ≡ waiting old
-  pub left : left_of new ≡ left_of old
+  pub left : left_in_victim new ≡ left_in_victim old
   pub gain : gain_of new ≡ gain_of old
   pub lands : landing new ≡ landing old
   pub frees : (block : ℕ) → is_free new block ≡ true → is_free old block ≡ true
@@ -270,15 +270,15 @@ pub record IsReadied (old new : Physical) : Type 0 where
 pub record ReadiedOn {M : Type 0} (clock : M → ℕ) (contents : M → Image) (left : M → ℕ → Image → Type 0) (answer : WriteAnswer)
     (seg seg_new : Physical) (old new : M) : Type 0 where
   pub segment : IsPhysicalOf (contents new) seg_new
-  pub keeps : Keeps seg (contents old) (contents new)
-  pub crash : LeavesOnly clock left old new (λ m c. Keeps seg (contents old) c)
+  pub keeps : PreservesSegment seg (contents old) (contents new)
+  pub crash : LeavesOnly clock left old new (λ m c. PreservesSegment seg (contents old) c)
   pub others : answer ≡ wrote.Done → (p : ℕ) → (page_at (contents new) p ≡ page_at (contents old) p)
       ⊎ ((p / seg.size ≡ seg_new.copy_next / seg.size) × (is_free seg (seg_new.copy_next / seg.size) ≡ true)
       × (is_soiled seg (seg_new.copy_next / seg.size) ≡ true) × (page_at (contents new) p ≡ erased))
 
 -- The next page for copies was used: it holds this.
 pub record IsCopyUsed (x : Option Held) (old new : Physical) : Type 0 where
-  pub pages : SamePages old new
+  pub pages : SameBlocksAndPages old new
   pub held : new.held ≡ slice_set old.held old.copy_next x
   pub next : (new.next ≡ old.next) × (new.left ≡ old.left)
   pub copy_next : new.copy_next ≡ old.copy_next + 1
@@ -290,12 +290,12 @@ pub record IsCopyUsed (x : Option Held) (old new : Physical) : Type 0 where
   pub pair_room : new.pair_room ≡ old.pair_room
   pub victim : new.victim ≡ old.victim
   pub waits : waiting new ≡ waiting old
-  pub left : left_of new ≡ left_of old
+  pub left : left_in_victim new ≡ left_in_victim old
   pub gain : gain_of new ≡ gain_of old
 
 -- A live page of the victim is dead, and what led to it leads to the other page, under its number too.
 pub record IsLed (before after : ℕ) (old new : Physical) : Type 0 where
-  pub pages : SamePages old new
+  pub pages : SameBlocksAndPages old new
   pub held : new.held ≡ slice_set old.held before None
   pub next : (new.next ≡ old.next) × (new.left ≡ old.left)
   pub copies : (new.copy_next ≡ old.copy_next) × (new.copy_left ≡ old.copy_left)
@@ -309,5 +309,5 @@ pub record IsLed (before after : ℕ) (old new : Physical) : Type 0 where
   pub pair_room : new.pair_room + 1 ≡ old.pair_room
   pub victim : new.victim ≡ old.victim
   pub waits : waiting new ≡ waiting old
-  pub left : left_of new + 1 ≡ left_of old
+  pub left : left_in_victim new + 1 ≡ left_in_victim old
   pub gain : gain_of new ≡ gain_of old + 1

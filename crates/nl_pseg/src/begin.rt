@@ -1,10 +1,10 @@
 // Takes a block to be cleaned.
 ghost use Rattle.std.specs.Prelude.{◌≡◌, ◌↔◌, ℕ, ◌*◌, ◌<◌, ◌≤◌, length, Some, None, IsTrue, IfSome, IfNone};
 ghost use Rattle.std.specs.Bool.{OnTrue, OnFalse};
-ghost use Rattle.nl_blocks.specs.Table.{HasBlock, IsTable, block_at, free_count};
+ghost use Rattle.nl_blocks.specs.Table.{HasBlock, IsBlockTable, block_at, free_count};
 ghost use Rattle.nl_pseg.specs.Kept.{kept};
-ghost use Rattle.nl_pseg.specs.Cleaning.{Begins, CannotBegin, IsChosen, NoneChosen};
-ghost use Rattle.nl_pseg.specs.Seen.{IsFormed, IsTied, seen};
+ghost use Rattle.nl_pseg.specs.Cleaning.{BeginsBlock, CannotBegin, IsChosen, NoneChosen};
+ghost use Rattle.nl_pseg.specs.Seen.{IsPhysicalFormed, IsTied, seen};
 ghost use Rattle.nl_pseg.specs.Space.{HasFewPairs, IsWhole};
 
 use crate::state::State;
@@ -39,15 +39,15 @@ impl State {
 
     /// Makes the coldest block, or that with the most dead pages, the victim.
     pub fn begin(&mut self, cold: bool) -> bool
-        requires formed { IsFormed (kept self.old) }
+        requires formed { IsPhysicalFormed (kept self.old) }
         requires tied { IsTied (kept self.old) }
         requires few { HasFewPairs (seen (kept self.old)) }
-        ensures formed { IsFormed (kept self.new) }
+        ensures formed { IsPhysicalFormed (kept self.new) }
         ensures tied { IsTied (kept self.new) }
         ensures few { HasFewPairs (seen (kept self.new)) }
-        ensures table { IsTable self.new.blocks }
+        ensures table { IsBlockTable self.new.blocks }
         ensures begun { OnTrue result
-            ((block : ℕ) × IsChosen cold (seen (kept self.old)) block × Begins block (seen (kept self.old)) (seen (kept self.new))) }
+            ((block : ℕ) × IsChosen cold (seen (kept self.old)) block × BeginsBlock block (seen (kept self.old)) (seen (kept self.new))) }
         ensures none { OnFalse result (seen (kept self.new) ≡ seen (kept self.old)) }
         ensures cannot { IsTrue result ↔ (CannotBegin cold (seen (kept self.old)) → ⊥) }
     {
@@ -64,18 +64,18 @@ impl State {
 
     /// The block is the victim.
     fn choose(&mut self, block: u32)
-        requires formed { IsFormed (kept self.old) }
+        requires formed { IsPhysicalFormed (kept self.old) }
         requires tied { IsTied (kept self.old) }
         requires none { self.old.victim ≡ None }
         requires few { length self.old.names.pairs ≤ 2 * self.old.blocks.size }
         requires some { 0 < free_count self.old.blocks }
         requires has { HasBlock self.old.blocks block }
         requires sealed { (block_at self.old.blocks block).state ≡ BlockState.Sealed }
-        ensures formed { IsFormed (kept self.new) }
+        ensures formed { IsPhysicalFormed (kept self.new) }
         ensures tied { IsTied (kept self.new) }
         ensures few { HasFewPairs (seen (kept self.new)) }
-        ensures table { IsTable self.new.blocks }
-        ensures begins { Begins block (seen (kept self.old)) (seen (kept self.new)) }
+        ensures table { IsBlockTable self.new.blocks }
+        ensures begins { BeginsBlock block (seen (kept self.old)) (seen (kept self.new)) }
     {
         let _ = self.blocks.count();
         choose(&mut self.blocks, block);

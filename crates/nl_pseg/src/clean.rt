@@ -4,11 +4,11 @@ ghost use Rattle.std.specs.Bool.{OnTrue, OnFalse};
 ghost use Rattle.nl_field.specs.CrashStates.{Rose, saturated};
 ghost use Rattle.nl_field.specs.Page.{Image};
 ghost use Rattle.nl_nand.specs.Nand.{FaultsCounted};
-ghost use Rattle.nl_pseg.specs.Cleaning.{Begins, CannotBegin, CountedMove, IsChosen};
+ghost use Rattle.nl_pseg.specs.Cleaning.{BeginsBlock, CannotBegin, CountedMove, IsChosen};
 ghost use Rattle.nl_pseg.specs.Copies.{CopiesOn, CopiesPage, ErasesIfDone, ErasesOn};
-ghost use Rattle.nl_pseg.specs.Segment.{HasSpare, IsClean, IsPhysicalOf, KeepsBlock};
-ghost use Rattle.nl_pseg.specs.Seen.{Fits};
-ghost use Rattle.nl_pseg.specs.Space.{HasRoomForVictim, IsWhole, left_of, victims};
+ghost use Rattle.nl_pseg.specs.Segment.{CanSpareBlock, IsClean, IsPhysicalOf, KeepsBlock};
+ghost use Rattle.nl_pseg.specs.Seen.{FitsPhysical};
+ghost use Rattle.nl_pseg.specs.Space.{HasRoomForVictim, IsWhole, left_in_victim, victims};
 
 use crate::cleaned::{Copied, Erasure};
 use crate::pseg::PSeg;
@@ -20,12 +20,12 @@ impl PSeg {
     /// one with the most pages that are not live. False exactly where a victim is in hand, the table has more than twice as many
     /// pairs as a block has pages, no block is Free, or there is no such block.
     pub fn begin(&mut self, cold: bool) -> bool
-        ensures begun { OnTrue result ((block : ℕ) × IsChosen cold self.old block × Begins block self.old self.new) }
+        ensures begun { OnTrue result ((block : ℕ) × IsChosen cold self.old block × BeginsBlock block self.old self.new) }
         ensures none { OnFalse result (self.new ≡ self.old) }
         ensures cannot { IsTrue result ↔ (CannotBegin cold self.old → ⊥) }
         ensures whole { IsWhole self.new }
         ensures segment { (image : Image) → IsPhysicalOf image self.old → IsPhysicalOf image self.new }
-        ensures spare { (image : Image) → HasSpare image self.old → HasSpare image self.new }
+        ensures spare { (image : Image) → CanSpareBlock image self.old → CanSpareBlock image self.new }
         ensures clean { IsClean self.old → IsClean self.new }
         ensures kept { KeepsBlock self.old → KeepsBlock self.new }
     {
@@ -38,10 +38,10 @@ impl PSeg {
     /// names lead that led to it. `Nothing` exactly where no victim with a live page is in hand; `Lost` only where the page read does
     /// not hold its number; `Fault` only where the medium failed.
     pub fn copy_one<M: Nand>(&mut self, media: &mut M, buf: &mut PageBuf) -> Copied
-        requires fits { Fits (M.geometry media.old) self.old }
+        requires fits { FitsPhysical (M.geometry media.old) self.old }
         requires lands { HasRoomForVictim self.old }
         requires segment { M.tells → IsPhysicalOf (M.contents media.old) self.old }
-        ensures nothing { result ≡ Copied.Nothing ↔ left_of self.old ≡ 0 }
+        ensures nothing { result ≡ Copied.Nothing ↔ left_in_victim self.old ≡ 0 }
         ensures refused { result ≡ Copied.Nothing → (self.new ≡ self.old) × (media.new ≡ media.old) }
         ensures copies { CopiesPage result self.old self.new }
         ensures whole { IsWhole self.new }
@@ -58,9 +58,9 @@ impl PSeg {
     /// Erases the victim, where no page of it is live: it is Free, or waits for the old names that stand in it. `Nothing` exactly where
     /// no victim without live pages is in hand; `Fault` only where the medium failed, and then the victim stays in hand.
     pub fn erase_victim<M: Nand>(&mut self, media: &mut M) -> Erasure
-        requires fits { Fits (M.geometry media.old) self.old }
+        requires fits { FitsPhysical (M.geometry media.old) self.old }
         requires segment { M.tells → IsPhysicalOf (M.contents media.old) self.old }
-        ensures nothing { result ≡ Erasure.Nothing ↔ ((victims self.old ≡ 1) × (left_of self.old ≡ 0) → ⊥) }
+        ensures nothing { result ≡ Erasure.Nothing ↔ ((victims self.old ≡ 1) × (left_in_victim self.old ≡ 0) → ⊥) }
         ensures refused { result ≡ Erasure.Nothing → media.new ≡ media.old }
         ensures erases { ErasesIfDone result self.old self.new }
         ensures whole { IsWhole self.new }

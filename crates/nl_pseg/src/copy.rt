@@ -4,16 +4,16 @@ ghost use Rattle.nl_field.specs.CrashStates.{Rose, saturated};
 ghost use Rattle.nl_field.specs.Page.{page_at};
 ghost use Rattle.nl_field.specs.Spelling.{is_stamp};
 ghost use Rattle.nl_nand.specs.Nand.{FaultsCounted};
-ghost use Rattle.nl_blocks.specs.Table.{HasBlock, IsTable, block_at};
+ghost use Rattle.nl_blocks.specs.Table.{HasBlock, IsBlockTable, block_at};
 ghost use Rattle.nl_blocks.specs.Used.{is_target_state, used_in};
 ghost use Rattle.nl_pseg_pages.specs.Pages.{shown_by};
 ghost use Rattle.nl_pseg.specs.Cleaning.{CountedMove, IsMoved, programmed_by};
 ghost use Rattle.nl_pseg.specs.Copies.{CopiesOn, CopiesPage};
 ghost use Rattle.nl_pseg.specs.Kept.{all_filled, kept};
-ghost use Rattle.nl_pseg.specs.Moving.{IsConsistent, LandsPage, MovesOn, MovesPage};
-ghost use Rattle.nl_pseg.specs.Seen.{seen, Fits, IsFormed, IsTied};
-ghost use Rattle.nl_pseg.specs.Segment.{HasSpare, InVictim, IsClean, IsPhysicalOf, held_at};
-ghost use Rattle.nl_pseg.specs.Space.{HasRoomForVictim, landing, left_of};
+ghost use Rattle.nl_pseg.specs.Moving.{IsConsistent, LandsPage, MovesOn, MovesPageOrNone};
+ghost use Rattle.nl_pseg.specs.Seen.{seen, FitsPhysical, IsPhysicalFormed, IsTied};
+ghost use Rattle.nl_pseg.specs.Segment.{CanSpareBlock, InVictim, IsClean, IsPhysicalOf, held_at};
+ghost use Rattle.nl_pseg.specs.Space.{HasRoomForVictim, landing, left_in_victim};
 ghost use Rattle.nl_pseg.specs.Steps.{IsCopyUsed, IsLed, IsReadied, IsTargeted, ReadiedOn, aimed_at};
 ghost use Rattle.nl_pseg.specs.Writes.{ProgramsOn};
 ghost use Rattle.nl_pseg.specs.declared.held.Held.{Held as HeldOf};
@@ -30,7 +30,7 @@ use nl_pseg_pages::{program_page, read_page};
 impl State {
     /// A live page of a block: the first one from the place on where the last one was found, or else the first one.
     pub fn first_live(&self, block: u32) -> Option<u32>
-        requires formed { IsFormed (kept self.now) }
+        requires formed { IsPhysicalFormed (kept self.now) }
         requires has { HasBlock self.now.blocks block }
         ensures some { IfSome result (λ page. (page / self.now.blocks.size ≡ block) × IsSome (held_at (seen (kept self.now)) page)) }
         ensures none { IfNone result ((page : ℕ) → page / self.now.blocks.size ≡ block → held_at (seen (kept self.now)) page ≡ None) }
@@ -44,7 +44,7 @@ impl State {
 
     /// The first live page of a block from one place on up to another.
     fn live_among(&self, block: u32, from: u32, to: u32) -> Option<u32>
-        requires formed { IsFormed (kept self.now) }
+        requires formed { IsPhysicalFormed (kept self.now) }
         requires has { HasBlock self.now.blocks block }
         requires within { to ≤ self.now.blocks.size }
         ensures some { IfSome result (λ page. (page / self.now.blocks.size ≡ block) × IsSome (held_at (seen (kept self.now)) page)) }
@@ -64,12 +64,12 @@ impl State {
     /// Sees to it that the block for copies has a page that is not used: where it is full, takes a Free block, and erases it first
     /// where it is soiled. Where that fails, the block is Free again.
     fn ready<M: Nand>(&mut self, media: &mut M) -> WriteAnswer
-        requires formed { IsFormed (kept self.old) }
+        requires formed { IsPhysicalFormed (kept self.old) }
         requires tied { IsTied (kept self.old) }
-        requires fits { Fits (M.geometry media.old) (seen (kept self.old)) }
+        requires fits { FitsPhysical (M.geometry media.old) (seen (kept self.old)) }
         requires lands { 0 < landing (seen (kept self.old)) }
         requires segment { M.tells → IsPhysicalOf (M.contents media.old) (seen (kept self.old)) }
-        ensures formed { IsFormed (kept self.new) }
+        ensures formed { IsPhysicalFormed (kept self.new) }
         ensures tied { IsTied (kept self.new) }
         ensures left { result ≡ WriteAnswer.Done → (kept self.new).filled < self.new.blocks.size }
         ensures readied { IsReadied (seen (kept self.old)) (seen (kept self.new)) }
@@ -108,13 +108,13 @@ impl State {
 
     /// Copies are written to this block. No page of it is used.
     fn aim(&mut self, block: u32)
-        requires formed { IsFormed (all_filled (kept self.old)) }
+        requires formed { IsPhysicalFormed (all_filled (kept self.old)) }
         requires has { HasBlock self.old.blocks block }
         requires target { (block_at self.old.blocks block).state ≡ BlockState.Target }
         requires unused { used_in is_target_state self.old.blocks block ≡ 0 }
         requires targeted { IsTargeted (all_filled (kept self.old)) block }
         requires in_use { (p : ℕ) (h : HeldOf) → held_at (seen (kept self.old)) p ≡ Some h → p / self.old.blocks.size ≡ block → ⊥ }
-        ensures formed { IsFormed (kept self.new) }
+        ensures formed { IsPhysicalFormed (kept self.new) }
         ensures tied { IsTied (kept self.new) }
         ensures aimed { seen (kept self.new) ≡ aimed_at (seen (kept self.old)) block }
         ensures filled { (kept self.new).filled ≡ 0 }
@@ -126,12 +126,12 @@ impl State {
 
     /// Uses the next page for copies: it holds this. A block that is full is Sealed.
     fn use_copy(&mut self, page: u32, held: Option<Held>)
-        requires formed { IsFormed (kept self.old) }
+        requires formed { IsPhysicalFormed (kept self.old) }
         requires tied { IsTied (kept self.old) }
         requires room { (kept self.old).filled < self.old.blocks.size }
         requires next { page ≡ (seen (kept self.old)).copy_next }
         requires spelled { IfSome held (λ h. IsTrue (is_stamp h.stamp)) }
-        ensures formed { IsFormed (kept self.new) }
+        ensures formed { IsPhysicalFormed (kept self.new) }
         ensures tied { IsTied (kept self.new) }
         ensures used { IsCopyUsed held (seen (kept self.old)) (seen (kept self.new)) }
     {
@@ -144,16 +144,16 @@ impl State {
 
     /// The live page of the victim is at the other page now.
     fn lead(&mut self, before: u32, after: u32)
-        requires formed { IsFormed (kept self.old) }
+        requires formed { IsPhysicalFormed (kept self.old) }
         requires tied { IsTied (kept self.old) }
         requires victim { self.old.victim ≡ Some (before / self.old.blocks.size) }
         requires live { IsSome (held_at (seen (kept self.old)) before) }
         requires there { IsSome (held_at (seen (kept self.old)) after) }
         requires apart { before ≡ after → ⊥ }
         requires room { 0 < self.old.names.room }
-        ensures formed { IsFormed (kept self.new) }
+        ensures formed { IsPhysicalFormed (kept self.new) }
         ensures tied { IsTied (kept self.new) }
-        ensures table { IsTable self.new.blocks }
+        ensures table { IsBlockTable self.new.blocks }
         ensures led { IsLed before after (seen (kept self.old)) (seen (kept self.new)) }
     {
         let _ = self.blocks.count();
@@ -166,7 +166,7 @@ impl State {
     /// Programs the buffer as the copy of a live page of the victim.
     fn land<M: Nand>(&mut self, media: &mut M, before: u32, held: Held, buf: &mut PageBuf) -> Copied
         requires consistent { IsConsistent (kept self.old) }
-        requires fits { Fits (M.geometry media.old) (seen (kept self.old)) }
+        requires fits { FitsPhysical (M.geometry media.old) (seen (kept self.old)) }
         requires room { (kept self.old).filled < self.old.blocks.size }
         requires victim { InVictim (seen (kept self.old)) before }
         requires live { held_at (seen (kept self.old)) before ≡ Some held }
@@ -176,7 +176,7 @@ impl State {
         ensures medium { M.tells → ProgramsOn M.clock M.contents M.left held.tag held.stamp buf.old.main (programmed_by result)
             (seen (kept self.old)) (seen (kept self.new)) media.old media.new }
         ensures spare { M.tells → shown_by (page_at (M.contents media.old) before) ≡ Some (held.tag, held.stamp, buf.old.main)
-            → HasSpare (M.contents media.old) (seen (kept self.old)) → HasSpare (M.contents media.new) (seen (kept self.new)) }
+            → CanSpareBlock (M.contents media.old) (seen (kept self.old)) → CanSpareBlock (M.contents media.new) (seen (kept self.new)) }
         ensures geometry { M.geometry media.new ≡ M.geometry media.old }
         ensures later { M.clock media.old ≤ M.clock media.new }
         ensures clock { (IsMoved result → M.clock media.new ≡ saturated (M.clock media.old + 1))
@@ -215,14 +215,14 @@ impl State {
         buf: &mut PageBuf,
     ) -> Copied
         requires consistent { IsConsistent (kept self.old) }
-        requires fits { Fits (M.geometry media.old) (seen (kept self.old)) }
+        requires fits { FitsPhysical (M.geometry media.old) (seen (kept self.old)) }
         requires victim { InVictim (seen (kept self.old)) before }
         requires live { held_at (seen (kept self.old)) before ≡ Some held }
         requires room { 0 < landing (seen (kept self.old)) }
         requires segment { M.tells → IsPhysicalOf (M.contents media.old) (seen (kept self.old)) }
         ensures consistent { IsConsistent (kept self.new) }
         ensures nothing { result ≡ Copied.Nothing → ⊥ }
-        ensures moves { MovesPage before held result (seen (kept self.old)) (seen (kept self.new)) }
+        ensures moves { MovesPageOrNone before held result (seen (kept self.old)) (seen (kept self.new)) }
         ensures lands { HasRoomForVictim (seen (kept self.old))
             → Rose (M.write_faults media.old) (M.write_faults media.new) ⊎ HasRoomForVictim (seen (kept self.new)) }
         ensures medium { M.tells → MovesOn M.clock M.contents M.left before held result (seen (kept self.old))
@@ -245,11 +245,11 @@ impl State {
     /// Moves one live page of the victim.
     pub fn copy_one<M: Nand>(&mut self, media: &mut M, buf: &mut PageBuf) -> Copied
         requires consistent { IsConsistent (kept self.old) }
-        requires fits { Fits (M.geometry media.old) (seen (kept self.old)) }
+        requires fits { FitsPhysical (M.geometry media.old) (seen (kept self.old)) }
         requires lands { HasRoomForVictim (seen (kept self.old)) }
         requires segment { M.tells → IsPhysicalOf (M.contents media.old) (seen (kept self.old)) }
         ensures consistent { IsConsistent (kept self.new) }
-        ensures nothing { result ≡ Copied.Nothing ↔ left_of (seen (kept self.old)) ≡ 0 }
+        ensures nothing { result ≡ Copied.Nothing ↔ left_in_victim (seen (kept self.old)) ≡ 0 }
         ensures refused { result ≡ Copied.Nothing → (seen (kept self.new) ≡ seen (kept self.old)) × (media.new ≡ media.old) }
         ensures copies { CopiesPage result (seen (kept self.old)) (seen (kept self.new)) }
         ensures lands { Rose (M.write_faults media.old) (M.write_faults media.new) ⊎ HasRoomForVictim (seen (kept self.new)) }

@@ -2,14 +2,14 @@
 ghost use Rattle.std.specs.Prelude.{◌≡◌, ◌↔◌, ℕ, ◌+◌, ◌/◌, Some, None};
 ghost use Rattle.nl_field.specs.CrashStates.{saturated};
 ghost use Rattle.nl_nand.specs.Nand.{FaultsCounted};
-ghost use Rattle.nl_blocks.specs.Table.{IsTable};
-ghost use Rattle.nl_pseg.specs.Cleaning.{Erases};
+ghost use Rattle.nl_blocks.specs.Table.{IsBlockTable};
+ghost use Rattle.nl_pseg.specs.Cleaning.{ErasesBlock};
 ghost use Rattle.nl_pseg.specs.Copies.{ErasesIfDone, ErasesOn};
 ghost use Rattle.nl_pseg.specs.Kept.{kept};
 ghost use Rattle.nl_pseg.specs.Moving.{IsConsistent};
 ghost use Rattle.nl_pseg.specs.Segment.{IsPhysicalOf, held_at};
-ghost use Rattle.nl_pseg.specs.Seen.{seen, Fits, IsFormed, IsTied};
-ghost use Rattle.nl_pseg.specs.Space.{HasFewPairs, left_of, victims};
+ghost use Rattle.nl_pseg.specs.Seen.{seen, FitsPhysical, IsPhysicalFormed, IsTied};
+ghost use Rattle.nl_pseg.specs.Space.{HasFewPairs, left_in_victim, victims};
 
 use crate::cleaned::Erasure;
 use crate::state::State;
@@ -18,15 +18,15 @@ use nl_nand::{Nand, WriteAnswer};
 impl State {
     /// The victim was erased.
     fn release(&mut self, victim: u32)
-        requires formed { IsFormed (kept self.old) }
+        requires formed { IsPhysicalFormed (kept self.old) }
         requires tied { IsTied (kept self.old) }
         requires victim { self.old.victim ≡ Some victim }
         requires dead { (page : ℕ) → page / self.old.blocks.size ≡ victim → held_at (seen (kept self.old)) page ≡ None }
-        ensures formed { IsFormed (kept self.new) }
+        ensures formed { IsPhysicalFormed (kept self.new) }
         ensures tied { IsTied (kept self.new) }
         ensures few { HasFewPairs (seen (kept self.new)) }
-        ensures table { IsTable self.new.blocks }
-        ensures erases { Erases victim (seen (kept self.old)) (seen (kept self.new)) }
+        ensures table { IsBlockTable self.new.blocks }
+        ensures erases { ErasesBlock victim (seen (kept self.old)) (seen (kept self.new)) }
     {
         let _ = self.blocks.count();
         let names = self.names.count(victim);
@@ -39,11 +39,11 @@ impl State {
     /// Erases the victim, where no page of it is live.
     pub fn erase_victim<M: Nand>(&mut self, media: &mut M) -> Erasure
         requires consistent { IsConsistent (kept self.old) }
-        requires fits { Fits (M.geometry media.old) (seen (kept self.old)) }
+        requires fits { FitsPhysical (M.geometry media.old) (seen (kept self.old)) }
         requires segment { M.tells → IsPhysicalOf (M.contents media.old) (seen (kept self.old)) }
         ensures consistent { IsConsistent (kept self.new) }
-        ensures table { IsTable self.new.blocks }
-        ensures nothing { result ≡ Erasure.Nothing ↔ ((victims (seen (kept self.old)) ≡ 1) × (left_of (seen (kept self.old)) ≡ 0) → ⊥) }
+        ensures table { IsBlockTable self.new.blocks }
+        ensures nothing { result ≡ Erasure.Nothing ↔ ((victims (seen (kept self.old)) ≡ 1) × (left_in_victim (seen (kept self.old)) ≡ 0) → ⊥) }
         ensures refused { result ≡ Erasure.Nothing → media.new ≡ media.old }
         ensures erases { ErasesIfDone result (seen (kept self.old)) (seen (kept self.new)) }
         ensures medium { M.tells → ErasesOn M.clock M.contents M.left result (seen (kept self.old))

@@ -2,14 +2,14 @@
 ghost use Rattle.std.specs.Prelude.{◌≡◌, ◌↔◌, ◌<◌, ℕ, slice_set, slice_index_or, None, IsSome, IfSome, IsTrue};
 ghost use Rattle.std.specs.Bool.{OnTrue, OnFalse};
 ghost use Rattle.nl_field.specs.Live.{resolve};
-ghost use Rattle.nl_blocks.specs.Table.{IsTable, free_count};
+ghost use Rattle.nl_blocks.specs.Table.{IsBlockTable, free_count};
 ghost use Rattle.nl_remap.specs.Links.{HasLink};
 ghost use Rattle.nl_remap.specs.Table.{pair};
 ghost use Rattle.nl_pseg.specs.Kept.{kept};
-ghost use Rattle.nl_pseg.specs.Segment.{InSegment, IsLive, IsUnspent, SameNames, SamePages, held_at};
-ghost use Rattle.nl_pseg.specs.Seen.{seen, IsFormed, IsTied};
+ghost use Rattle.nl_pseg.specs.Segment.{InSegment, IsLive, IsUnspent, SameNames, SameBlocksAndPages, held_at};
+ghost use Rattle.nl_pseg.specs.Seen.{seen, IsPhysicalFormed, IsTied};
 ghost use Rattle.nl_pseg.specs.Space.{HasFewPairs, IsWhole};
-ghost use Rattle.nl_pseg.specs.Steps.{Ends};
+ghost use Rattle.nl_pseg.specs.Steps.{EndsPage};
 
 use crate::held::Held;
 use crate::state::State;
@@ -19,17 +19,17 @@ use nl_pseg_blocks::mark;
 impl State {
     /// What holds of each table of blocks.
     pub fn table(&self)
-        ensures { IsTable self.now.blocks }
+        ensures { IsBlockTable self.now.blocks }
     {
         let _ = self.blocks.count();
     }
 
     /// What holds of each segment.
     pub fn whole(&self)
-        requires formed { IsFormed (kept self.now) }
+        requires formed { IsPhysicalFormed (kept self.now) }
         requires tied { IsTied (kept self.now) }
         requires few { HasFewPairs (seen (kept self.now)) }
-        ensures table { IsTable self.now.blocks }
+        ensures table { IsBlockTable self.now.blocks }
         ensures few { HasFewPairs (seen (kept self.now)) }
         ensures whole { IsWhole (seen (kept self.now)) }
     {
@@ -55,7 +55,7 @@ impl State {
 
     /// The page to which the pointer leads, where it is live under the pointer's number.
     pub fn place_of(&self, at: Pointer) -> Option<u32>
-        requires { IsFormed (kept self.now) }
+        requires { IsPhysicalFormed (kept self.now) }
         ensures some { IfSome result (λ place. place ≡ resolve (seen (kept self.now)).pairs at.name) }
         ensures within { IfSome result (λ place. InSegment (seen (kept self.now)) place) }
         ensures held { IfSome result (λ place. IsSome (held_at (seen (kept self.now)) place)) }
@@ -76,15 +76,15 @@ impl State {
 
     /// A live page is dead. No pair leads to it.
     pub fn end(&mut self, page: u32)
-        requires formed { IsFormed (kept self.old) }
+        requires formed { IsPhysicalFormed (kept self.old) }
         requires tied { IsTied (kept self.old) }
         requires alone { (name : ℕ) → HasLink self.old.names.pairs (pair name page) → ⊥ }
         requires within { InSegment (seen (kept self.old)) page }
         requires live { IsSome (held_at (seen (kept self.old)) page) }
-        ensures formed { IsFormed (kept self.new) }
+        ensures formed { IsPhysicalFormed (kept self.new) }
         ensures tied { IsTied (kept self.new) }
         ensures held { self.new.held.items ≡ slice_set self.old.held.items page None }
-        ensures pages { SamePages (seen (kept self.old)) (seen (kept self.new)) }
+        ensures pages { SameBlocksAndPages (seen (kept self.old)) (seen (kept self.new)) }
         ensures space { IsUnspent (seen (kept self.old)) (seen (kept self.new)) }
         ensures names { self.new.names ≡ self.old.names }
         ensures same { SameNames (seen (kept self.old)) (seen (kept self.new)) }
@@ -95,12 +95,12 @@ impl State {
 
     /// The page to which the pointer leads is dead. False exactly where it leads to no live page of its number.
     pub fn free(&mut self, at: Pointer) -> bool
-        requires formed { IsFormed (kept self.old) }
+        requires formed { IsPhysicalFormed (kept self.old) }
         requires tied { IsTied (kept self.old) }
-        ensures formed { IsFormed (kept self.new) }
+        ensures formed { IsPhysicalFormed (kept self.new) }
         ensures tied { IsTied (kept self.new) }
         ensures found { IsTrue result ↔ IsLive (seen (kept self.old)) at }
-        ensures ended { OnTrue result (Ends (resolve (seen (kept self.old)).pairs at.name) (seen (kept self.old)) (seen (kept self.new))) }
+        ensures ended { OnTrue result (EndsPage (resolve (seen (kept self.old)).pairs at.name) (seen (kept self.old)) (seen (kept self.new))) }
         ensures kept { OnFalse result (seen (kept self.new) ≡ seen (kept self.old)) }
     {
         let Some(place) = self.place_of(at) else {
@@ -112,13 +112,13 @@ impl State {
 
     /// A live page is dead, and no pair leads to it any more.
     pub fn end_all(&mut self, page: u32)
-        requires formed { IsFormed (kept self.old) }
+        requires formed { IsPhysicalFormed (kept self.old) }
         requires tied { IsTied (kept self.old) }
         requires within { InSegment (seen (kept self.old)) page }
         requires live { IsSome (held_at (seen (kept self.old)) page) }
-        ensures formed { IsFormed (kept self.new) }
+        ensures formed { IsPhysicalFormed (kept self.new) }
         ensures tied { IsTied (kept self.new) }
-        ensures ended { Ends page (seen (kept self.old)) (seen (kept self.new)) }
+        ensures ended { EndsPage page (seen (kept self.old)) (seen (kept self.new)) }
     {
         self.drop_names(page);
         self.end(page);

@@ -5,8 +5,8 @@ ghost use Rattle.nl_blocks.specs.Table.{HasBlock, block_at, is_retired_state};
 ghost use Rattle.nl_remap.specs.Links.{HasLink};
 ghost use Rattle.nl_remap.specs.Table.{IsOld, beside, led, pair, place_of};
 ghost use Rattle.nl_pseg.specs.Kept.{kept};
-ghost use Rattle.nl_pseg.specs.Seen.{IsFormed, IsTied, seen};
-ghost use Rattle.nl_pseg.specs.Steps.{NamesGone};
+ghost use Rattle.nl_pseg.specs.Seen.{IsPhysicalFormed, IsTied, seen};
+ghost use Rattle.nl_pseg.specs.Steps.{NamesGoneFromSegment};
 
 use crate::state::State;
 use nl_blocks::BlockState;
@@ -49,9 +49,9 @@ impl State {
 
     /// The name is an old name no longer. A block that waited for it alone is Free.
     pub fn drop_name(&mut self, name: u32) -> bool
-        requires formed { IsFormed (kept self.old) }
+        requires formed { IsPhysicalFormed (kept self.old) }
         requires tied { IsTied (kept self.old) }
-        ensures formed { IsFormed (kept self.new) }
+        ensures formed { IsPhysicalFormed (kept self.new) }
         ensures tied { IsTied (kept self.new) }
         ensures found { IsTrue result ↔ IsOld self.old.names.pairs name }
         ensures pairs { OnTrue result (self.new.names.pairs ≡ remove self.old.names.pairs (place_of self.old.names.pairs name)) }
@@ -59,7 +59,7 @@ impl State {
         ensures beside { OnTrue result
             (let target = led self.old.names.pairs name in beside self.new.names.pairs target ≡ beside self.old.names.pairs target) }
         ensures held { self.new.held ≡ self.old.held }
-        ensures gone { NamesGone (seen (kept self.old)) (seen (kept self.new)) }
+        ensures gone { NamesGoneFromSegment (seen (kept self.old)) (seen (kept self.new)) }
         ensures kept { OnFalse result (seen (kept self.new) ≡ seen (kept self.old)) }
     {
         if !self.names.drop_name(name) {
@@ -74,14 +74,14 @@ impl State {
 
     /// No name leads to the page any more.
     pub fn drop_names(&mut self, target: u32)
-        requires formed { IsFormed (kept self.old) }
+        requires formed { IsPhysicalFormed (kept self.old) }
         requires tied { IsTied (kept self.old) }
-        ensures formed { IsFormed (kept self.new) }
+        ensures formed { IsPhysicalFormed (kept self.new) }
         ensures tied { IsTied (kept self.new) }
         ensures pairs { self.new.names.pairs ≡ beside self.old.names.pairs target }
         ensures none { (name : ℕ) → HasLink self.new.names.pairs (pair name target) → ⊥ }
         ensures held { self.new.held ≡ self.old.held }
-        ensures gone { NamesGone (seen (kept self.old)) (seen (kept self.new)) }
+        ensures gone { NamesGoneFromSegment (seen (kept self.old)) (seen (kept self.new)) }
     {
         while let Some(name) = self.name_of(target) {
             self.drop_name(name);

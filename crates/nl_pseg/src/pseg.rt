@@ -5,15 +5,15 @@ ghost use Rattle.nl_field.specs.Live.{resolve};
 ghost use Rattle.nl_field.specs.Numbers.{is_legal, shape_for};
 ghost use Rattle.nl_field.specs.Page.{Image, page_at, written};
 ghost use Rattle.nl_field.specs.Spelling.{is_stamp};
-ghost use Rattle.nl_nand.specs.Nand.{FaultsCounted, SameLeft};
+ghost use Rattle.nl_nand.specs.Nand.{FaultsCounted, SameCrashStates};
 ghost use Rattle.nl_pseg.specs.Answers.{ReadsHeld};
 ghost use Rattle.nl_pseg.specs.Cleaning.{without_name};
-ghost use Rattle.nl_pseg.specs.Effects.{Counted};
-ghost use Rattle.nl_pseg.specs.Opened.{GivesAllBack, IsNew, Soils};
-ghost use Rattle.nl_pseg.specs.Seen.{Fits};
-ghost use Rattle.nl_pseg.specs.Segment.{CanLead, HasSpare, IsClean, IsDead, IsLive, IsNewStamp, IsOldName, IsPhysicalOf, IsReady, KeepsBlock, KeptAreDead, SamePages, held_at, room, without_target};
-ghost use Rattle.nl_pseg.specs.Space.{GivesBack, IsWhole, Lessens, reach, waiting};
-ghost use Rattle.nl_pseg.specs.Steps.{Loads};
+ghost use Rattle.nl_pseg.specs.Effects.{WriteCounted};
+ghost use Rattle.nl_pseg.specs.Opened.{GivesAllBack, IsNewSegment, Soils};
+ghost use Rattle.nl_pseg.specs.Seen.{FitsPhysical};
+ghost use Rattle.nl_pseg.specs.Segment.{CanLead, CanSpareBlock, IsClean, IsDead, IsLive, IsNewStamp, IsOldName, IsPhysicalOf, NeedsNoErase, KeepsBlock, KeptAreDead, SameBlocksAndPages, held_at, room, without_target};
+ghost use Rattle.nl_pseg.specs.Space.{GivesBackBlocks, IsWhole, Lessens, reach, waiting};
+ghost use Rattle.nl_pseg.specs.Steps.{LoadsHeldPage};
 ghost use Rattle.nl_pseg.specs.Writes.{AddsPage, ReplacesPage, WritesOn};
 
 use crate::state::State;
@@ -35,14 +35,14 @@ impl Model for PSeg {
 
     ghost Value = { Physical };
 
-    ghost use Rattle.nl_blocks.specs.Table.{IsTable};
+    ghost use Rattle.nl_blocks.specs.Table.{IsBlockTable};
     ghost use Rattle.nl_pseg.specs.Kept.{kept};
-    ghost use Rattle.nl_pseg.specs.Seen.{seen, IsFormed, IsTied};
+    ghost use Rattle.nl_pseg.specs.Seen.{seen, IsPhysicalFormed, IsTied};
     ghost use Rattle.nl_pseg.specs.Space.{HasFewPairs};
 
     ghost view = { λ s. seen (kept s.state) };
 
-    ghost invariant = { λ s. IsFormed (kept s.state) × IsTied (kept s.state) × HasFewPairs (seen (kept s.state)) × IsTable s.state.blocks };
+    ghost invariant = { λ s. IsPhysicalFormed (kept s.state) × IsTied (kept s.state) × HasFewPairs (seen (kept s.state)) × IsBlockTable s.state.blocks };
 }
 
 impl PSeg {
@@ -50,7 +50,7 @@ impl PSeg {
     pub fn new(alloc: Global, shape: &Shape) -> Result<PSeg, Memory>
         requires legal { IsTrue (is_legal shape.now.blocks shape.now.pages) }
         requires numbers { shape.now ≡ shape_for shape.now.blocks shape.now.pages }
-        ensures { IfOk result (IsNew shape.now) }
+        ensures { IfOk result (IsNewSegment shape.now) }
     {
         let state = State::new(alloc, shape)?;
         state.table();
@@ -68,10 +68,10 @@ impl PSeg {
         requires new_stamp { IsNewStamp self.old at.stamp }
         requires away { (at.name ≡ page → ⊥) → CanLead self.old at.name }
         ensures whole { IsWhole self.new }
-        ensures loads { Loads page at tag self.old self.new }
+        ensures loads { LoadsHeldPage page at tag self.old self.new }
         ensures victim { self.new.victim ≡ None }
         ensures kept { (1 ≤ self.new.free + waiting self.new) → KeepsBlock self.new }
-        ensures spare { (image : Image) → 1 ≤ self.new.free + waiting self.new → HasSpare image self.new }
+        ensures spare { (image : Image) → 1 ≤ self.new.free + waiting self.new → CanSpareBlock image self.new }
     {
         self.state.load_as(page, at, tag);
         self.state.table();
@@ -88,7 +88,7 @@ impl PSeg {
         ensures soils { Soils block wear self.old self.new }
         ensures victim { self.new.victim ≡ None }
         ensures kept { KeepsBlock self.old → KeepsBlock self.new }
-        ensures spare { (image : Image) → HasSpare image self.old → HasSpare image self.new }
+        ensures spare { (image : Image) → CanSpareBlock image self.old → CanSpareBlock image self.new }
     {
         self.state.soil(block, wear);
         self.state.table();
@@ -104,7 +104,7 @@ impl PSeg {
         ensures given { GivesAllBack self.old self.new }
         ensures victim { self.new.victim ≡ None }
         ensures kept { 1 ≤ self.new.free → KeepsBlock self.new }
-        ensures spare { (image : Image) → HasSpare image self.new }
+        ensures spare { (image : Image) → CanSpareBlock image self.new }
     {
         self.state.give_back_all();
         self.state.table();
@@ -134,12 +134,12 @@ impl PSeg {
         ensures room { OnTrue result (self.new.pair_room ≡ self.old.pair_room + 1) }
         ensures kept { OnFalse result (self.new ≡ self.old) }
         ensures live { self.new.held ≡ self.old.held }
-        ensures pages { SamePages self.old self.new }
+        ensures pages { SameBlocksAndPages self.old self.new }
         ensures space { Lessens 0 self.old self.new }
         ensures reach { reach self.new ≡ reach self.old }
-        ensures back { GivesBack self.old self.new }
+        ensures back { GivesBackBlocks self.old self.new }
         ensures segment { (image : Image) → IsPhysicalOf image self.old → IsPhysicalOf image self.new }
-        ensures spare { (image : Image) → HasSpare image self.old → HasSpare image self.new }
+        ensures spare { (image : Image) → CanSpareBlock image self.old → CanSpareBlock image self.new }
         ensures clean { IsClean self.old → IsClean self.new }
         ensures kept_block { KeepsBlock self.old → KeepsBlock self.new }
     {
@@ -176,12 +176,12 @@ impl PSeg {
         ensures found { IsTrue result ↔ IsLive self.old at }
         ensures freed { OnTrue result (self.new.held ≡ slice_set self.old.held (resolve self.old.pairs at.name) None) }
         ensures pairs { OnTrue result (self.new.pairs ≡ without_target (resolve self.old.pairs at.name) self.old.pairs) }
-        ensures pages { SamePages self.old self.new }
+        ensures pages { SameBlocksAndPages self.old self.new }
         ensures whole { IsWhole self.new }
         ensures space { Lessens 1 self.old self.new }
-        ensures back { GivesBack self.old self.new }
+        ensures back { GivesBackBlocks self.old self.new }
         ensures segment { (image : Image) → IsPhysicalOf image self.old → IsPhysicalOf image self.new }
-        ensures spare { (image : Image) → HasSpare image self.old → HasSpare image self.new }
+        ensures spare { (image : Image) → CanSpareBlock image self.old → CanSpareBlock image self.new }
         ensures kept { OnFalse result (self.new ≡ self.old) }
         ensures clean { IsClean self.old → IsClean self.new }
         ensures kept_block { KeepsBlock self.old → KeepsBlock self.new }
@@ -203,7 +203,7 @@ impl PSeg {
         tag: Tag,
         buf: &mut PageBuf,
     ) -> NamedRead
-        requires fits { Fits (M.geometry media.old) self.old }
+        requires fits { FitsPhysical (M.geometry media.old) self.old }
         requires segment { M.tells → IsPhysicalOf (M.contents media.old) self.old }
         ensures segment { self.new ≡ self.old }
         ensures answer { ReadsHeld (held_at self.old (resolve self.old.pairs at.name)) tag at.stamp buf.new result }
@@ -213,7 +213,7 @@ impl PSeg {
             → (result ≡ NamedRead.Done) ⊎ (result ≡ NamedRead.Fault) }
         ensures geometry { M.geometry media.new ≡ M.geometry media.old }
         ensures contents { M.contents media.new ≡ M.contents media.old }
-        ensures left { SameLeft M.left media.old media.new }
+        ensures left { SameCrashStates M.left media.old media.new }
         ensures clock { M.clock media.new ≡ M.clock media.old }
         ensures write_faults { M.write_faults media.new ≡ M.write_faults media.old }
         ensures read_faults { FaultsCounted (M.read_faults media.old) (M.read_faults media.new) (result ≡ NamedRead.Fault) }
@@ -231,7 +231,7 @@ impl PSeg {
         from: &PageBuf,
         stamp: u64,
     ) -> Named
-        requires fits { Fits (M.geometry media.old) self.old }
+        requires fits { FitsPhysical (M.geometry media.old) self.old }
         requires stamp { IsTrue (is_stamp stamp) }
         requires segment { M.tells → IsPhysicalOf (M.contents media.old) self.old }
         ensures live { result ≡ Named.NotLive → ⊥ }
@@ -240,9 +240,9 @@ impl PSeg {
         ensures adds { AddsPage tag stamp result self.old self.new }
         ensures whole { IsWhole self.new }
         ensures medium { M.tells → WritesOn M.clock M.contents M.left tag stamp from.now.main result self.old self.new media.old media.new }
-        ensures spare { M.tells → HasSpare (M.contents media.old) self.old → HasSpare (M.contents media.new) self.new }
+        ensures spare { M.tells → CanSpareBlock (M.contents media.old) self.old → CanSpareBlock (M.contents media.new) self.new }
         ensures geometry { M.geometry media.new ≡ M.geometry media.old }
-        ensures counts { Counted M.clock M.read_faults M.write_faults (IsReady self.old) media.old media.new result }
+        ensures counts { WriteCounted M.clock M.read_faults M.write_faults (NeedsNoErase self.old) media.old media.new result }
     {
         let named = self.state.write(media, tag, from, stamp);
         self.state.table();
@@ -261,7 +261,7 @@ impl PSeg {
         from: &PageBuf,
         stamp: u64,
     ) -> Named
-        requires fits { Fits (M.geometry media.old) self.old }
+        requires fits { FitsPhysical (M.geometry media.old) self.old }
         requires stamp { IsTrue (is_stamp stamp) }
         requires segment { M.tells → IsPhysicalOf (M.contents media.old) self.old }
         ensures live { result ≡ Named.NotLive ↔ (IsLive self.old old → ⊥) }
@@ -270,9 +270,9 @@ impl PSeg {
         ensures replaces { ReplacesPage (resolve self.old.pairs old.name) tag stamp result self.old self.new }
         ensures whole { IsWhole self.new }
         ensures medium { M.tells → WritesOn M.clock M.contents M.left tag stamp from.now.main result self.old self.new media.old media.new }
-        ensures spare { M.tells → HasSpare (M.contents media.old) self.old → HasSpare (M.contents media.new) self.new }
+        ensures spare { M.tells → CanSpareBlock (M.contents media.old) self.old → CanSpareBlock (M.contents media.new) self.new }
         ensures geometry { M.geometry media.new ≡ M.geometry media.old }
-        ensures counts { Counted M.clock M.read_faults M.write_faults (IsReady self.old) media.old media.new result }
+        ensures counts { WriteCounted M.clock M.read_faults M.write_faults (NeedsNoErase self.old) media.old media.new result }
     {
         let named = self.state.overwrite(media, old, tag, from, stamp);
         self.state.table();

@@ -2,11 +2,11 @@
 ghost use Rattle.std.specs.Prelude.{◌≡◌, ◌⊎◌, Some};
 ghost use Rattle.nl_field.specs.Live.{resolve};
 ghost use Rattle.nl_field.specs.Page.{page_at, written};
-ghost use Rattle.nl_nand.specs.Nand.{FaultsCounted, SameLeft};
+ghost use Rattle.nl_nand.specs.Nand.{FaultsCounted, SameCrashStates};
 ghost use Rattle.nl_pseg.specs.Kept.{kept};
 ghost use Rattle.nl_pseg.specs.Answers.{ReadsHeld};
 ghost use Rattle.nl_pseg.specs.Segment.{IsPhysicalOf, held_at};
-ghost use Rattle.nl_pseg.specs.Seen.{seen, Fits, IsFormed};
+ghost use Rattle.nl_pseg.specs.Seen.{seen, FitsPhysical, IsPhysicalFormed};
 
 use crate::state::State;
 use nl_field::{NamedRead, PageBuf, Pointer, Tag};
@@ -22,8 +22,8 @@ impl State {
         tag: Tag,
         buf: &mut PageBuf,
     ) -> NamedRead
-        requires formed { IsFormed (kept self.now) }
-        requires fits { Fits (M.geometry media.old) (seen (kept self.now)) }
+        requires formed { IsPhysicalFormed (kept self.now) }
+        requires fits { FitsPhysical (M.geometry media.old) (seen (kept self.now)) }
         requires segment { M.tells → IsPhysicalOf (M.contents media.old) (seen (kept self.now)) }
         ensures answer { ReadsHeld (held_at (seen (kept self.now))
             (resolve (seen (kept self.now)).pairs at.name)) tag at.stamp buf.new result }
@@ -33,7 +33,7 @@ impl State {
             ≡ Some (record { tag = tag; stamp = at.stamp }) → (result ≡ NamedRead.Done) ⊎ (result ≡ NamedRead.Fault) }
         ensures geometry { M.geometry media.new ≡ M.geometry media.old }
         ensures contents { M.contents media.new ≡ M.contents media.old }
-        ensures left { SameLeft M.left media.old media.new }
+        ensures left { SameCrashStates M.left media.old media.new }
         ensures clock { M.clock media.new ≡ M.clock media.old }
         ensures write_faults { M.write_faults media.new ≡ M.write_faults media.old }
         ensures read_faults { FaultsCounted (M.read_faults media.old) (M.read_faults media.new) (result ≡ NamedRead.Fault) }

@@ -4,8 +4,8 @@ ghost use Rattle.nl_field.specs.Numbers.{is_legal, shape_for};
 ghost use Rattle.nl_field.specs.Spelling.{is_stamp};
 ghost use Rattle.nl_blocks.specs.Table.{block_at};
 ghost use Rattle.nl_pseg.specs.Kept.{kept};
-ghost use Rattle.nl_pseg.specs.Seen.{new_segment, seen, IsFormed, IsTied};
-ghost use Rattle.nl_pseg.specs.Steps.{IsUsed};
+ghost use Rattle.nl_pseg.specs.Seen.{new_segment, seen, IsPhysicalFormed, IsTied};
+ghost use Rattle.nl_pseg.specs.Steps.{UsesNextPage};
 
 use crate::held::{Held, no_marks, no_pages};
 use nl_blocks::{BlockState, Blocks};
@@ -39,7 +39,7 @@ impl State {
     pub fn new(alloc: Global, shape: &Shape) -> Result<State, Memory>
         requires legal { IsTrue (is_legal shape.now.blocks shape.now.pages) }
         requires numbers { shape.now ≡ shape_for shape.now.blocks shape.now.pages }
-        ensures formed { IfOk result (λ s. IsFormed (kept s)) }
+        ensures formed { IfOk result (λ s. IsPhysicalFormed (kept s)) }
         ensures tied { IfOk result (λ s. IsTied (kept s)) }
         ensures seen { IfOk result (λ s. seen (kept s) ≡ new_segment shape.now) }
     {
@@ -58,14 +58,14 @@ impl State {
 
     /// Uses the next page of the block that is written to: it holds this. A block that is full is Sealed.
     pub fn use_next(&mut self, page: u32, held: Option<Held>)
-        requires formed { IsFormed (kept self.old) }
+        requires formed { IsPhysicalFormed (kept self.old) }
         requires tied { IsTied (kept self.old) }
         requires room { (kept self.old).used < self.old.blocks.size }
         requires next { page ≡ (seen (kept self.old)).next }
         requires spelled { IfSome held (λ h. IsTrue (is_stamp h.stamp)) }
-        ensures formed { IsFormed (kept self.new) }
+        ensures formed { IsPhysicalFormed (kept self.new) }
         ensures tied { IsTied (kept self.new) }
-        ensures used { IsUsed held (seen (kept self.old)) (seen (kept self.new)) }
+        ensures used { UsesNextPage held (seen (kept self.old)) (seen (kept self.new)) }
         ensures sealed { (kept self.new).used ≡ self.new.blocks.size
             → (block_at self.new.blocks self.old.active).state ≡ BlockState.Sealed }
     {

@@ -2,11 +2,11 @@
 ghost use Rattle.std.specs.Prelude.{◌≡◌, ◌⊎◌, ◌<◌, ◌↔◌, slice_set, Some, IsTrue};
 ghost use Rattle.nl_field.specs.Live.{resolve};
 ghost use Rattle.nl_field.specs.Spelling.{is_stamp};
-ghost use Rattle.nl_pseg.specs.Answers.{IfPlaced, IsTried};
-ghost use Rattle.nl_pseg.specs.Effects.{Counted};
+ghost use Rattle.nl_pseg.specs.Answers.{IfPlaced, ReachedMedium};
+ghost use Rattle.nl_pseg.specs.Effects.{WriteCounted};
 ghost use Rattle.nl_pseg.specs.Kept.{kept};
-ghost use Rattle.nl_pseg.specs.Seen.{seen, Fits, IsFormed, IsTied};
-ghost use Rattle.nl_pseg.specs.Segment.{IsLive, IsPhysicalOf, IsReady, room};
+ghost use Rattle.nl_pseg.specs.Seen.{seen, FitsPhysical, IsPhysicalFormed, IsTied};
+ghost use Rattle.nl_pseg.specs.Segment.{IsLive, IsPhysicalOf, NeedsNoErase, room};
 ghost use Rattle.nl_pseg.specs.Steps.{Placing, WritesOver};
 ghost use Rattle.nl_pseg.specs.Writes.{ProgramsOn, WritesOn};
 
@@ -20,15 +20,15 @@ use nl_pseg_pages::program_page;
 impl State {
     /// Programs the next page of the block that is written to.
     fn put<M: Nand>(&mut self, media: &mut M, tag: Tag, from: &PageBuf, stamp: u64) -> Named
-        requires formed { IsFormed (kept self.old) }
+        requires formed { IsPhysicalFormed (kept self.old) }
         requires tied { IsTied (kept self.old) }
-        requires fits { Fits (M.geometry media.old) (seen (kept self.old)) }
+        requires fits { FitsPhysical (M.geometry media.old) (seen (kept self.old)) }
         requires stamp { IsTrue (is_stamp stamp) }
         requires room { (kept self.old).used < self.old.blocks.size }
         requires segment { M.tells → IsPhysicalOf (M.contents media.old) (seen (kept self.old)) }
-        ensures formed { IsFormed (kept self.new) }
+        ensures formed { IsPhysicalFormed (kept self.new) }
         ensures tied { IsTied (kept self.new) }
-        ensures tried { IsTried result }
+        ensures tried { ReachedMedium result }
         ensures placing { Placing stamp
             (λ at. slice_set self.old.held.items at.name (Some (record { tag = tag; stamp = stamp }))) result (seen (kept self.old))
             (seen (kept self.new)) }
@@ -36,7 +36,7 @@ impl State {
         ensures medium { M.tells → ProgramsOn M.clock M.contents M.left tag stamp from.now.main result (seen (kept self.old))
             (seen (kept self.new)) media.old media.new }
         ensures geometry { M.geometry media.new ≡ M.geometry media.old }
-        ensures counts { Counted M.clock M.read_faults M.write_faults (IsReady (seen (kept self.old))) media.old media.new result }
+        ensures counts { WriteCounted M.clock M.read_faults M.write_faults (NeedsNoErase (seen (kept self.old))) media.old media.new result }
     {
         let Some(page) = next_page(&self.blocks, self.active) else {
             unreachable!();
@@ -57,22 +57,22 @@ impl State {
 
     /// Programs a page for a new name, where there is room.
     fn place<M: Nand>(&mut self, media: &mut M, tag: Tag, from: &PageBuf, stamp: u64) -> Named
-        requires formed { IsFormed (kept self.old) }
+        requires formed { IsPhysicalFormed (kept self.old) }
         requires tied { IsTied (kept self.old) }
-        requires fits { Fits (M.geometry media.old) (seen (kept self.old)) }
+        requires fits { FitsPhysical (M.geometry media.old) (seen (kept self.old)) }
         requires stamp { IsTrue (is_stamp stamp) }
         requires room { 0 < room (seen (kept self.old)) }
         requires segment { M.tells → IsPhysicalOf (M.contents media.old) (seen (kept self.old)) }
-        ensures formed { IsFormed (kept self.new) }
+        ensures formed { IsPhysicalFormed (kept self.new) }
         ensures tied { IsTied (kept self.new) }
-        ensures tried { IsTried result }
+        ensures tried { ReachedMedium result }
         ensures placing { Placing stamp
             (λ at. slice_set self.old.held.items at.name (Some (record { tag = tag; stamp = stamp }))) result (seen (kept self.old))
             (seen (kept self.new)) }
         ensures medium { M.tells → WritesOn M.clock M.contents M.left tag stamp from.now.main result (seen (kept self.old))
             (seen (kept self.new)) media.old media.new }
         ensures geometry { M.geometry media.new ≡ M.geometry media.old }
-        ensures counts { Counted M.clock M.read_faults M.write_faults (IsReady (seen (kept self.old))) media.old media.new result }
+        ensures counts { WriteCounted M.clock M.read_faults M.write_faults (NeedsNoErase (seen (kept self.old))) media.old media.new result }
     {
         match self.start(media) {
             WriteAnswer::Failed => Named::Fault,
@@ -82,12 +82,12 @@ impl State {
 
     /// Writes a page of this owner, under this write sequence number, to a page that the segment picks.
     pub fn write<M: Nand>(&mut self, media: &mut M, tag: Tag, from: &PageBuf, stamp: u64) -> Named
-        requires formed { IsFormed (kept self.old) }
+        requires formed { IsPhysicalFormed (kept self.old) }
         requires tied { IsTied (kept self.old) }
-        requires fits { Fits (M.geometry media.old) (seen (kept self.old)) }
+        requires fits { FitsPhysical (M.geometry media.old) (seen (kept self.old)) }
         requires stamp { IsTrue (is_stamp stamp) }
         requires segment { M.tells → IsPhysicalOf (M.contents media.old) (seen (kept self.old)) }
-        ensures formed { IsFormed (kept self.new) }
+        ensures formed { IsPhysicalFormed (kept self.new) }
         ensures tied { IsTied (kept self.new) }
         ensures live { result ≡ Named.NotLive → ⊥ }
         ensures full { result ≡ Named.NoPage ↔ room (seen (kept self.old)) ≡ 0 }
@@ -98,7 +98,7 @@ impl State {
         ensures medium { M.tells → WritesOn M.clock M.contents M.left tag stamp from.now.main result (seen (kept self.old))
             (seen (kept self.new)) media.old media.new }
         ensures geometry { M.geometry media.new ≡ M.geometry media.old }
-        ensures counts { Counted M.clock M.read_faults M.write_faults (IsReady (seen (kept self.old))) media.old media.new result }
+        ensures counts { WriteCounted M.clock M.read_faults M.write_faults (NeedsNoErase (seen (kept self.old))) media.old media.new result }
     {
         if !self.has_room() {
             return Named::NoPage;
@@ -115,12 +115,12 @@ impl State {
         from: &PageBuf,
         stamp: u64,
     ) -> Named
-        requires formed { IsFormed (kept self.old) }
+        requires formed { IsPhysicalFormed (kept self.old) }
         requires tied { IsTied (kept self.old) }
-        requires fits { Fits (M.geometry media.old) (seen (kept self.old)) }
+        requires fits { FitsPhysical (M.geometry media.old) (seen (kept self.old)) }
         requires stamp { IsTrue (is_stamp stamp) }
         requires segment { M.tells → IsPhysicalOf (M.contents media.old) (seen (kept self.old)) }
-        ensures formed { IsFormed (kept self.new) }
+        ensures formed { IsPhysicalFormed (kept self.new) }
         ensures tied { IsTied (kept self.new) }
         ensures live { result ≡ Named.NotLive ↔ (IsLive (seen (kept self.old)) old → ⊥) }
         ensures full { result ≡ Named.NoPage ↔ (IsLive (seen (kept self.old)) old × (room (seen (kept self.old)) ≡ 0)) }
@@ -132,7 +132,7 @@ impl State {
         ensures medium { M.tells → WritesOn M.clock M.contents M.left tag stamp from.now.main result (seen (kept self.old))
             (seen (kept self.new)) media.old media.new }
         ensures geometry { M.geometry media.new ≡ M.geometry media.old }
-        ensures counts { Counted M.clock M.read_faults M.write_faults (IsReady (seen (kept self.old))) media.old media.new result }
+        ensures counts { WriteCounted M.clock M.read_faults M.write_faults (NeedsNoErase (seen (kept self.old))) media.old media.new result }
     {
         let Some(place) = self.place_of(old) else {
             return Named::NotLive;

@@ -4,25 +4,25 @@ use Rattle.std.proofs.lemmas.Bool.{cases_lt, true≢false}
 use Rattle.std.proofs.lemmas.Nat.{div-add-mod'}
 use Rattle.nl_blocks.specs.declared.states.BlockState.{BlockState}
 use Rattle.nl_blocks.specs.declared.states.PageState.{PageState}
-use Rattle.nl_blocks.specs.Table.{Table, HasBlock, HasPage, IsNextPage, IsTable, block_at, page_at, with_mark, with_page}
-use Rattle.nl_blocks.specs.Used.{IsRising, used_in}
+use Rattle.nl_blocks.specs.Table.{Table, HasBlock, HasPage, IsNextPage, IsBlockTable, block_at, page_at, with_mark, with_page}
+use Rattle.nl_blocks.specs.Used.{BlocksAreRisen, used_in}
 use Rattle.nl_blocks.proofs.UsedLaws.{again-marks, full-used, next-marks, next-used, rising-again, rising-marks, used-other}
-use Rattle.nl_pseg_blocks.specs.Uses.{IsUpTo, Uses}
+use Rattle.nl_pseg_blocks.specs.Uses.{IsUpTo, CountsUsedPage}
 
-module _ (kind : BlockState → Bool) (t : Table) (is : IsTable t) (rising : IsRising kind t) (page : ℕ) (state : PageState) (has : HasPage t page) where
+module _ (kind : BlockState → Bool) (t : Table) (is : IsBlockTable t) (rising : BlocksAreRisen kind t) (page : ℕ) (state : PageState) (has : HasPage t page) where
   room : page % t.size ≡ used_in kind t (page / t.size) → used_in kind t (page / t.size) < t.size
   room at = let some = is.some in omega (arith, at, some)
 
   next : page % t.size ≡ used_in kind t (page / t.size) → page ≡ page / t.size * t.size + used_in kind t (page / t.size)
   next at = sym (div-add-mod' page t.size) ∙ ap (λ (k : ℕ). page / t.size * t.size + k) at
 
-  pub marked_rises : IsUpTo kind page t → IsRising kind (with_page t page state)
+  pub marked_rises : IsUpTo kind page t → BlocksAreRisen kind (with_page t page state)
   marked_rises up = ⊎_elim
       (λ less. rising-again kind t is rising page state has less)
       (λ not_less. let at : page % t.size ≡ used_in kind t (page / t.size) = omega (arith, up, not_less) in rising-marks kind t is rising page state has (room at) (next at))
       (cases_lt (page % t.size) (used_in kind t (page / t.size)))
 
-  pub marked_uses : Uses kind page t (with_page t page state)
+  pub marked_uses : CountsUsedPage kind page t (with_page t page state)
   marked_uses = record {
     again = λ less block has_block. again-marks kind t is rising page state has less block has_block;
     next = λ at. next-marks kind t is rising page state has (room at) (next at);
@@ -30,7 +30,7 @@ module _ (kind : BlockState → Bool) (t : Table) (is : IsTable t) (rising : IsR
   }
 
 -- the next page of a block in a state of this kind
-module _ (kind : BlockState → Bool) (t : Table) (is : IsTable t) (block : ℕ) (has : HasBlock t block) (open_is : kind (block_at t block).state ≡ true) where
+module _ (kind : BlockState → Bool) (t : Table) (is : IsBlockTable t) (block : ℕ) (has : HasBlock t block) (open_is : kind (block_at t block).state ≡ true) where
   next_at : (page : ℕ) → IsNextPage t block page → (used_in kind t block < t.size) × (page ≡ block * t.size + used_in kind t block)
   next_at page is_next =
       let at = next-used kind t is block has open_is page is_next in

@@ -9,7 +9,7 @@ use Rattle.nl_blocks.specs.Table.{BlockRow, Table, HasBlock, HasPage, block_at, 
 use Rattle.nl_blocks.specs.Used.{IsRisen, first_unmarked, is_active_state, is_target_state}
 use Rattle.nl_blocks.proofs.TableLaws.{sum_by-with_block, block_at-with_block_other}
 use Rattle.nl_blocks.proofs.UsedLaws.{rising-with, used-each, used-other}
-use Rattle.nl_pseg_blocks.specs.Uses.{Use, no_use, use_at, AreRising, is_kept_state, use_of, use_in, use_with, IsPut, IsTold, SameFill, SameFillBeside, SameMarks, SameNumbers, SameUse, Restated, aside_state, told_state}
+use Rattle.nl_pseg_blocks.specs.Uses.{Use, no_use, use_at, ActiveAndTargetAreRisen, is_kept_state, use_of, use_in, use_with, IsPut, SetsWear, SameFill, SameFillBeside, SameMarks, SameNumbers, SameUse, SetsUse, aside_state, told_state}
 
 abbrev num : Bool → ℕ
 num b = cond b 1 0
@@ -152,14 +152,14 @@ pub record IsRowRisen (row : BlockRow) : Type 0 where
 pub shut_risen : (row : BlockRow) → IsShut row.state → IsRowRisen row
 shut_risen row is = record { active = λ e. absurd (both_ways _ is.active e); target = λ e. absurd (both_ways _ is.target e) }
 
-pub rows_rise : (t : Table) (block : ℕ) (row : BlockRow) → HasBlock t block → AreRising t → IsRowRisen row → AreRising (with_block t block row)
+pub rows_rise : (t : Table) (block : ℕ) (row : BlockRow) → HasBlock t block → ActiveAndTargetAreRisen t → IsRowRisen row → ActiveAndTargetAreRisen (with_block t block row)
 rows_rise t block row has rising risen = record {
   active = rising-with is_active_state t block row has rising.active risen.active;
   target = rising-with is_target_state t block row has rising.target risen.target;
 }
 
 -- a block whose pages stay as live as they were
-pub same_marks : (t : Table) (block : ℕ) (row : BlockRow) → HasBlock t block → ((k : ℕ) → (get_or row.pages k new_page).state ≡ (get_or (block_at t block).pages k new_page).state) → (AreRising t → IsRowRisen row)
+pub same_marks : (t : Table) (block : ℕ) (row : BlockRow) → HasBlock t block → ((k : ℕ) → (get_or row.pages k new_page).state ≡ (get_or (block_at t block).pages k new_page).state) → (ActiveAndTargetAreRisen t → IsRowRisen row)
     → SameMarks t (with_block t block row)
 same_marks t block row has same risen = record {
   rises = λ rising. rows_rise t block row has rising (risen rising);
@@ -200,7 +200,7 @@ fill_shut t block row has was now = record {
 
 -- the table is over one block
 pub restated : (t : Table) (block : ℕ) (row : BlockRow) (free : Bool) (wear : ℕ) → HasBlock t block → use_of row ≡ use_with free wear → ((k : ℕ) → (get_or row.pages k new_page).state ≡ (get_or (block_at t block).pages k new_page).state)
-    → (AreRising t → IsRowRisen row) → Restated block free wear t (with_block t block row)
+    → (ActiveAndTargetAreRisen t → IsRowRisen row) → SetsUse block free wear t (with_block t block row)
 restated t block row free wear has use_is same risen = record {
   marks = same_marks t block row has same risen;
   fill = fill_beside t block row has;
@@ -216,7 +216,7 @@ restated t block row free wear has use_is same risen = record {
 }
 
 -- what was done to one block, twice
-pub restated_again : {block wear more : ℕ} {was now : Bool} {a b c : Table} → Restated block was wear a b → Restated block now more b c → Restated block now more a c
+pub restated_again : {block wear more : ℕ} {was now : Bool} {a b c : Table} → SetsUse block was wear a b → SetsUse block now more b c → SetsUse block now more a c
 restated_again {block} {wear} {more} {was} {now} {a} {b} {c} first second = record {
   numbers = numbers_then first.numbers second.numbers;
   here = second.here;
@@ -231,7 +231,7 @@ restated_again {block} {wear} {more} {was} {now} {a} {b} {c} first second = reco
 }
 
 -- a block that is again what it was
-pub restated_same : {block wear : ℕ} {free : Bool} {a b : Table} → use_in a block ≡ use_with free wear → Restated block free wear a b → SameUse a b
+pub restated_same : {block wear : ℕ} {free : Bool} {a b : Table} → use_in a block ≡ use_with free wear → SetsUse block free wear a b → SameUse a b
 restated_same {block} {wear} {free} {a} {b} was r = record {
   numbers = r.numbers;
   uses = λ other. ⊎_elim
@@ -265,7 +265,7 @@ same_row t block row has use_is = record {
 
 -- a block has another wear
 pub told_block : (t : Table) (block : ℕ) (row : BlockRow) (wear : ℕ) → HasBlock t block → use_of row ≡ record { is_free = (use_in t block).is_free; is_kept = (use_in t block).is_kept; wear = wear }
-    → ((k : ℕ) → (get_or row.pages k new_page).state ≡ (get_or (block_at t block).pages k new_page).state) → (AreRising t → IsRowRisen row) → IsTold block wear t (with_block t block row)
+    → ((k : ℕ) → (get_or row.pages k new_page).state ≡ (get_or (block_at t block).pages k new_page).state) → (ActiveAndTargetAreRisen t → IsRowRisen row) → SetsWear block wear t (with_block t block row)
 told_block t block row wear has use_is same risen = record {
   fill = fill_beside t block row has;
   numbers = record { same_first = refl; same_size = refl; same_count = length-set t.blocks (block - t.first) row };
@@ -281,7 +281,7 @@ told_block t block row wear has use_is same risen = record {
 }
 
 -- a block that is Free, or in use, is that still
-pub told_restated : (t n : Table) (block wear : ℕ) (free : Bool) → (use_in t block).is_free ≡ free → (use_in t block).is_kept ≡ free → Restated block free wear t n → IsTold block wear t n
+pub told_restated : (t n : Table) (block wear : ℕ) (free : Bool) → (use_in t block).is_free ≡ free → (use_in t block).is_kept ≡ free → SetsUse block free wear t n → SetsWear block wear t n
 told_restated t n block wear free is_free_now is_kept_now r = record {
   numbers = r.numbers;
   here = r.here ∙ (λ i. record { is_free = sym is_free_now i; is_kept = sym is_kept_now i; wear = wear });

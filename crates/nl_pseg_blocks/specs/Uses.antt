@@ -4,7 +4,7 @@ use Rattle.nl_blocks.specs.declared.states.BlockState.{BlockState}
 use Rattle.nl_blocks.specs.declared.states.BlockState.TheVariants.{Free, Active, Target, Sealed, Victim, Retired}
 use Rattle.nl_blocks.specs.declared.states.PageState.{PageState}
 use Rattle.nl_blocks.specs.Table.{BlockRow, Table, HasBlock, block_at, free_count, is_free, is_free_state, HasPage, page_at}
-use Rattle.nl_blocks.specs.Used.{IsRising, SameUsed, is_active_state, is_target_state, used_in}
+use Rattle.nl_blocks.specs.Used.{BlocksAreRisen, SameUsed, is_active_state, is_target_state, used_in}
 
 -- What a block is good for: whether it is Free, whether it is kept for the cleaner, as it is Free or waits to be, and how often it was
 -- erased.
@@ -40,9 +40,9 @@ abbrev pub use_in : Table → ℕ → Use
 use_in table block = use_at table.first (map use_of table.blocks) block
 
 -- in an Active and in a Target block the pages are marked in rising order
-pub record AreRising (table : Table) : Type 0 where
-  pub active : IsRising is_active_state table
-  pub target : IsRising is_target_state table
+pub record ActiveAndTargetAreRisen (table : Table) : Type 0 where
+  pub active : BlocksAreRisen is_active_state table
+  pub target : BlocksAreRisen is_target_state table
 
 -- two tables have as many blocks, with the same numbers
 pub record SameNumbers (old new : Table) : Type 0 where
@@ -69,27 +69,27 @@ pub record SameFillBeside (block : ℕ) (old new : Table) : Type 0 where
 -- each page is as live as it was, and pages that were marked in rising order still are
 pub record SameMarks (old new : Table) : Type 0 where
   pub same : (page : ℕ) → HasPage old page → (page_at new page).state ≡ (page_at old page).state
-  pub rises : AreRising old → AreRising new
+  pub rises : ActiveAndTargetAreRisen old → ActiveAndTargetAreRisen new
 
 -- in blocks of this kind of state the page is used, or the next one that is
 abbrev pub IsUpTo : (BlockState → Bool) → ℕ → Table → Type 0
 IsUpTo kind page t = page % t.size ≤ used_in kind t (page / t.size)
 
 -- What marking a page does to the number of the used pages: a page that is used leaves it, and the next one is used now.
-pub record Uses (kind : BlockState → Bool) (page : ℕ) (old new : Table) : Type 0 where
+pub record CountsUsedPage (kind : BlockState → Bool) (page : ℕ) (old new : Table) : Type 0 where
   pub again : page % old.size < used_in kind old (page / old.size) → (block : ℕ) → HasBlock old block → SameUsed kind block old new
   pub next : page % old.size ≡ used_in kind old (page / old.size)
       → used_in kind new (page / old.size) ≡ used_in kind old (page / old.size) + 1
   pub others : (block : ℕ) → HasBlock old block → (block ≡ page / old.size → ⊥) → SameUsed kind block old new
 
 -- one page is live now, or not, and the others are as before
-pub record IsMarked (page : ℕ) (state : PageState) (old new : Table) : Type 0 where
-  pub rising : AreRising new
+pub record MarksPage (page : ℕ) (state : PageState) (old new : Table) : Type 0 where
+  pub rising : ActiveAndTargetAreRisen new
   pub here : (page_at new page).state ≡ state
   pub others : (other : ℕ) → HasPage old other → (other ≡ page → ⊥) → (page_at new other).state ≡ (page_at old other).state
 
 -- one block is Free now, or in use, and has this wear; the others are as before
-pub record Restated (block : ℕ) (free : Bool) (wear : ℕ) (old new : Table) : Type 0 where
+pub record SetsUse (block : ℕ) (free : Bool) (wear : ℕ) (old new : Table) : Type 0 where
   pub numbers : SameNumbers old new
   pub here : use_in new block ≡ use_with free wear
   pub others : (other : ℕ) → (other ≡ block → ⊥) → use_in new other ≡ use_in old other
@@ -108,7 +108,7 @@ told_state Victim = Sealed
 told_state (Retired names) = Retired names
 
 -- one block has this wear, and is as Free and as kept as it was; the others are as before
-pub record IsTold (block : ℕ) (wear : ℕ) (old new : Table) : Type 0 where
+pub record SetsWear (block : ℕ) (wear : ℕ) (old new : Table) : Type 0 where
   pub numbers : SameNumbers old new
   pub here : use_in new block ≡ record { is_free = (use_in old block).is_free; is_kept = (use_in old block).is_kept; wear = wear }
   pub others : (other : ℕ) → (other ≡ block → ⊥) → use_in new other ≡ use_in old other

@@ -2,7 +2,7 @@
 ghost use Rattle.std.specs.Prelude.{◌≡◌, ◌*◌, ◌/◌, ◌≤◌, ◌<◌, ◌+◌, ◌-◌, ◌^◌, ℕ, cond, true, false, IfSome, IfNone};
 ghost use Rattle.nl_blocks.specs.Table.{HasBlock, IsLeastWornFree, after_erase, block_at, free_count, in_state, is_retired_state, names_of, with_block, with_page, worn};
 ghost use Rattle.nl_blocks.specs.Used.{is_active_state, is_target_state, used_in, SameUsed};
-ghost use Rattle.nl_pseg_blocks.specs.Uses.{use_in, AreRising, IsMarked, IsPut, IsTold, IsUpTo, Restated, SameFill, SameMarks, SameNumbers, SameUse, Uses, aside_state, told_state};
+ghost use Rattle.nl_pseg_blocks.specs.Uses.{use_in, ActiveAndTargetAreRisen, MarksPage, IsPut, SetsWear, IsUpTo, SetsUse, SameFill, SameMarks, SameNumbers, SameUse, CountsUsedPage, aside_state, told_state};
 
 use nl_blocks::{BlockState, Blocks, PageState};
 
@@ -51,7 +51,7 @@ pub fn take(blocks: &mut Blocks) -> u32
     ensures was_free { (use_in blocks.old result).is_free ≡ true }
     ensures least { IsLeastWornFree blocks.old result }
     ensures active { (block_at blocks.new result).state ≡ BlockState.Active }
-    ensures taken { Restated result false (use_in blocks.old result).wear blocks.old blocks.new }
+    ensures taken { SetsUse result false (use_in blocks.old result).wear blocks.old blocks.new }
     ensures used { used_in is_active_state blocks.new result ≡ 0 }
     ensures filled { (block : ℕ) → HasBlock blocks.old block → SameUsed is_target_state block blocks.old blocks.new }
 {
@@ -68,7 +68,7 @@ pub fn take_target(blocks: &mut Blocks) -> u32
     ensures was_free { (use_in blocks.old result).is_free ≡ true }
     ensures least { IsLeastWornFree blocks.old result }
     ensures target { (block_at blocks.new result).state ≡ BlockState.Target }
-    ensures taken { Restated result false (use_in blocks.old result).wear blocks.old blocks.new }
+    ensures taken { SetsUse result false (use_in blocks.old result).wear blocks.old blocks.new }
     ensures filled { used_in is_target_state blocks.new result ≡ 0 }
     ensures used { (block : ℕ) → HasBlock blocks.old block → SameUsed is_active_state block blocks.old blocks.new }
 {
@@ -81,15 +81,15 @@ pub fn take_target(blocks: &mut Blocks) -> u32
 /// Marks a page live or dead, which is used, or is the next one of its block.
 pub fn mark(blocks: &mut Blocks, page: u32, live: bool)
     requires has { HasBlock blocks.old (page / blocks.old.size) }
-    requires rising { AreRising blocks.old }
+    requires rising { ActiveAndTargetAreRisen blocks.old }
     requires used { IsUpTo is_active_state page blocks.old }
     requires filled { IsUpTo is_target_state page blocks.old }
     ensures same { SameUse blocks.old blocks.new }
     ensures states { (block : ℕ) → (block_at blocks.new block).state ≡ (block_at blocks.old block).state }
-    ensures marked { IsMarked page (cond live PageState.Live PageState.Dead) blocks.old blocks.new }
+    ensures marked { MarksPage page (cond live PageState.Live PageState.Dead) blocks.old blocks.new }
     ensures table { blocks.new ≡ with_page blocks.old page (cond live PageState.Live PageState.Dead) }
-    ensures uses { Uses is_active_state page blocks.old blocks.new }
-    ensures fills { Uses is_target_state page blocks.old blocks.new }
+    ensures uses { CountsUsedPage is_active_state page blocks.old blocks.new }
+    ensures fills { CountsUsedPage is_target_state page blocks.old blocks.new }
 {
     let _ = blocks.count();
     if live {
@@ -170,7 +170,7 @@ pub fn end_name(blocks: &mut Blocks, block: u32)
 /// The block is Free again. It was not erased.
 pub fn give_back(blocks: &mut Blocks, block: u32)
     requires { HasBlock blocks.old block }
-    ensures { Restated block true (use_in blocks.old block).wear blocks.old blocks.new }
+    ensures { SetsUse block true (use_in blocks.old block).wear blocks.old blocks.new }
 {
     blocks.freed(block, 0);
 }
@@ -179,7 +179,7 @@ pub fn give_back(blocks: &mut Blocks, block: u32)
 pub fn wear_out(blocks: &mut Blocks, block: u32)
     requires has { HasBlock blocks.old block }
     requires used { (use_in blocks.old block).is_kept ≡ false }
-    ensures worn { Restated block false (worn (use_in blocks.old block).wear) blocks.old blocks.new }
+    ensures worn { SetsUse block false (worn (use_in blocks.old block).wear) blocks.old blocks.new }
     ensures state { (block_at blocks.new block).state ≡ (block_at blocks.old block).state }
     ensures fill { SameFill blocks.old blocks.new }
 {
@@ -189,7 +189,7 @@ pub fn wear_out(blocks: &mut Blocks, block: u32)
 /// The block is Sealed.
 pub fn shut(blocks: &mut Blocks, block: u32)
     requires { HasBlock blocks.old block }
-    ensures restated { Restated block false (use_in blocks.old block).wear blocks.old blocks.new }
+    ensures restated { SetsUse block false (use_in blocks.old block).wear blocks.old blocks.new }
     ensures state { (block_at blocks.new block).state ≡ BlockState.Sealed }
 {
     blocks.seal(block);
@@ -199,7 +199,7 @@ pub fn shut(blocks: &mut Blocks, block: u32)
 fn free_with(blocks: &mut Blocks, block: u32, wear: u32)
     requires has { HasBlock blocks.old block }
     requires free { (block_at blocks.old block).state ≡ BlockState.Free }
-    ensures { Restated block true wear blocks.old blocks.new }
+    ensures { SetsUse block true wear blocks.old blocks.new }
 {
     blocks.found(block, wear, 0);
 }
@@ -207,7 +207,7 @@ fn free_with(blocks: &mut Blocks, block: u32, wear: u32)
 /// The block is Sealed, with this wear.
 fn shut_with(blocks: &mut Blocks, block: u32, wear: u32)
     requires { HasBlock blocks.old block }
-    ensures restated { Restated block false wear blocks.old blocks.new }
+    ensures restated { SetsUse block false wear blocks.old blocks.new }
     ensures state { (block_at blocks.new block).state ≡ BlockState.Sealed }
 {
     blocks.freed(block, 0);
@@ -219,7 +219,7 @@ fn shut_with(blocks: &mut Blocks, block: u32, wear: u32)
 fn wait_with(blocks: &mut Blocks, block: u32, wear: u32, names: u32)
     requires has { HasBlock blocks.old block }
     requires retired { (block_at blocks.old block).state ≡ BlockState.Retired names }
-    ensures told { IsTold block wear blocks.old blocks.new }
+    ensures told { SetsWear block wear blocks.old blocks.new }
     ensures state { (block_at blocks.new block).state ≡ BlockState.Retired names }
 {
     let _ = blocks.count();
@@ -229,7 +229,7 @@ fn wait_with(blocks: &mut Blocks, block: u32, wear: u32, names: u32)
 /// The block was erased so often. One that is neither Free nor waits is Sealed.
 pub fn tell(blocks: &mut Blocks, block: u32, wear: u32)
     requires { HasBlock blocks.old block }
-    ensures told { IsTold block wear blocks.old blocks.new }
+    ensures told { SetsWear block wear blocks.old blocks.new }
     ensures state { (block_at blocks.new block).state ≡ told_state (block_at blocks.old block).state }
 {
     match blocks.state(block) {

@@ -7,7 +7,7 @@ use Rattle.nl_remap.specs.declared.links.Link.{Link}
 use Rattle.nl_remap.specs.Links.{link_at, no_link}
 use Rattle.nl_remap.specs.Table.{IsOld, IsRemap, led_on, pair, place_of}
 use Rattle.nl_remap.proofs.Ways.{place_is}
-use Rattle.nl_pseg_names.specs.OldNames.{IsKept, names_among}
+use Rattle.nl_pseg_names.specs.OldNames.{AreKeptNames, names_among}
 
 abbrev weight : ℕ → ℕ → Link → ℕ
 weight size block p = cond (p.from / size == block) 1 0
@@ -62,8 +62,8 @@ pub old_within : (xs : List Link) (name : ℕ) → IsRemap xs → IsOld xs name 
 old_within xs name is old = subst (λ n. n < length xs) (sym (ap (place_of xs) (sym old.2) ∙ place_is xs old.0 is old.1)) old.1
 
 -- what is kept goes on as a pair is added
-pub kept_add : {size room limit : ℕ} {xs ys : List Link} {counts now : List ℕ} (after old new at : ℕ) → IsKept size room limit xs counts → 0 < room → at ≤ length (map (led_on old new) xs) → ys ≡ insert (map (led_on old new) xs) at (pair old new) → after ≡ room - 1
-    → IsRemap ys → length now ≡ length counts → ((i : ℕ) → i < length counts → get_or now i 0 ≡ get_or counts i 0 + cond (old / size == i) 1 0) → IsKept size after limit ys now
+pub kept_add : {size room limit : ℕ} {xs ys : List Link} {counts now : List ℕ} (after old new at : ℕ) → AreKeptNames size room limit xs counts → 0 < room → at ≤ length (map (led_on old new) xs) → ys ≡ insert (map (led_on old new) xs) at (pair old new) → after ≡ room - 1
+    → IsRemap ys → length now ≡ length counts → ((i : ℕ) → i < length counts → get_or now i 0 ≡ get_or counts i 0 + cond (old / size == i) 1 0) → AreKeptNames size after limit ys now
 kept_add {size} {room} {limit} {xs} {ys} {counts} {now} after old new at is some bound added less table same each = record {
   some = is.some;
   whole =
@@ -82,8 +82,8 @@ kept_add {size} {room} {limit} {xs} {ys} {counts} {now} after old new at is some
 }
 
 -- what is kept stays whole as one old name is taken away
-pub kept_take : {size room limit : ℕ} {xs ys : List Link} {counts now : List ℕ} (after name : ℕ) → IsKept size room limit xs counts → IsOld xs name → ys ≡ remove xs (place_of xs name) → after ≡ room + 1
-    → IsRemap ys → length now ≡ length counts → ((i : ℕ) → i < length counts → get_or now i 0 + cond (name / size == i) 1 0 ≡ get_or counts i 0) → IsKept size after limit ys now
+pub kept_take : {size room limit : ℕ} {xs ys : List Link} {counts now : List ℕ} (after name : ℕ) → AreKeptNames size room limit xs counts → IsOld xs name → ys ≡ remove xs (place_of xs name) → after ≡ room + 1
+    → IsRemap ys → length now ≡ length counts → ((i : ℕ) → i < length counts → get_or now i 0 + cond (name / size == i) 1 0 ≡ get_or counts i 0) → AreKeptNames size after limit ys now
 kept_take {size} {room} {limit} {xs} {ys} {counts} {now} after name is old taken more table same each = record {
   some = is.some;
   whole =

@@ -25,7 +25,7 @@ pub record IsNameTable (t : NameTable) : Type 0 where
   pub remap : IsRemap t.pairs
 
 -- what the table keeps: where the names lead, and the counts of names by block
-pub record IsKept (size room limit : ℕ) (pairs : List Link) (counts : List ℕ) : Type 0 where
+pub record AreKeptNames (size room limit : ℕ) (pairs : List Link) (counts : List ℕ) : Type 0 where
   pub some : 0 < size
   pub whole : length pairs + room ≡ limit
   pub fits : limit < 2 ^ 32

@@ -23,13 +23,13 @@ pub struct OldNames {
 
 impl Model for OldNames {
     ghost use Rattle.std.specs.Prelude.{length};
-    ghost use Rattle.nl_pseg_names.specs.OldNames.{NameTable, IsKept};
+    ghost use Rattle.nl_pseg_names.specs.OldNames.{NameTable, AreKeptNames};
 
     ghost Value = { NameTable };
 
     ghost view = { λ n. record { pairs = n.remap.pairs; room = n.remap.room; size = n.size; blocks = length n.counts.items } };
 
-    ghost invariant = { λ n. IsKept n.size n.remap.room n.limit n.remap.pairs n.counts.items };
+    ghost invariant = { λ n. AreKeptNames n.size n.remap.room n.limit n.remap.pairs n.counts.items };
 }
 
 impl OldNames {

@@ -3,7 +3,7 @@ ghost use Rattle.std.specs.Prelude.{◌≡◌, ◌⊎◌, ◌+◌, ◌*◌, ◌<
 ghost use Rattle.nl_field.specs.Page.{page_at, written};
 ghost use Rattle.nl_field.specs.Spelling.{is_stamp};
 ghost use Rattle.nl_field.specs.SpareRecord.{spare_bytes, spare_rec_of};
-ghost use Rattle.nl_nand.specs.Nand.{CanProgram, Leaves, CrashLeaves, FaultsCounted, SameLeft, ticked};
+ghost use Rattle.nl_nand.specs.Nand.{CanProgram, OperationLeaves, CrashLeaves, FaultsCounted, SameCrashStates, ticked};
 ghost use Rattle.nl_pseg_pages.specs.Pages.{main_of, page_with, shown_by};
 
 use nl_field::{NamedRead, PageBuf, SpareRec, Tag, spare_into, spare_of};
@@ -50,7 +50,7 @@ pub fn read_page<M: Nand>(
         ≡ Some (tag, wanted, main_of (page_at (M.contents media.old) page)) → (result ≡ NamedRead.Done) ⊎ (result ≡ NamedRead.Fault) }
     ensures geometry { M.geometry media.new ≡ M.geometry media.old }
     ensures contents { M.contents media.new ≡ M.contents media.old }
-    ensures left { SameLeft M.left media.old media.new }
+    ensures left { SameCrashStates M.left media.old media.new }
     ensures clock { M.clock media.new ≡ M.clock media.old }
     ensures write_faults { M.write_faults media.new ≡ M.write_faults media.old }
     ensures read_faults { FaultsCounted (M.read_faults media.old) (M.read_faults media.new) (result ≡ NamedRead.Fault) }
@@ -81,7 +81,7 @@ pub fn program_page<M: Nand>(
     requires erased { M.tells → CanProgram (M.contents media.old) page }
     requires spelled { IsTrue (is_stamp stamp) }
     ensures shows { shown_by (written (page_with buf.old.main tag stamp wear)) ≡ Some (tag, stamp, buf.old.main) }
-    ensures effect { M.tells → Leaves page (page + 1) (written (page_with buf.old.main tag stamp wear))
+    ensures effect { M.tells → OperationLeaves page (page + 1) (written (page_with buf.old.main tag stamp wear))
         (M.contents media.old) result (M.contents media.new) }
     ensures crash { CrashLeaves M.clock M.contents M.left page (page + 1)
         (written (page_with buf.old.main tag stamp wear)) media.old media.new }

@@ -28,7 +28,7 @@ use Rattle.nl_meta.specs.Walk.{EntryPlace, addresses_of, all_places, crowded_fau
 use Rattle.nl_meta.proofs.AddressProofs.{addresses, filled_of, inode_spelled, member_address}
 use Rattle.nl_meta.proofs.Lists.{member-filter, member-range, true_false}
 use Rattle.nl_meta.proofs.NodeProofs.{dir_kind, used_is}
-use Rattle.nl_recover.specs.Held.{held_at, held_entry}
+use Rattle.nl_recover.specs.Held.{pointers_at_node, held_entry}
 use Rattle.nl_recover.specs.Looking.{LooksAlike, WalksAlike}
 use Rattle.nl_recover.proofs.HeldFacts.{all-held}
 use Rattle.nl_recover.proofs.WalkFacts.{first, or-later}
@@ -236,7 +236,7 @@ module _ (shape : Shape) (old new : VirtualMap) (bounds : ShapeBounds shape) (sa
             ∙ ap (map (λ (p : ℕ × Pointer). held_entry n rec p.0 p.1)) (file-pointers n rec (record { below = h; spelled = is; used = λ f. file-used (sym e ∙ f) }))
             ∙ sym (ap (λ (k : Kind). held_by n (record { generation = rec.generation; body = body_of old rec k })) e)
 
-    held-node : (n : ℕ) → n < shape.nodes → held_at new n ≡ held_at old n
+    held-node : (n : ℕ) → n < shape.nodes → pointers_at_node new n ≡ pointers_at_node old n
     held-node n h = ap (λ (o : Option InodeRec). held_by n (node_from new o)) (node-same n (below n h)) ∙ by (inode_at old n) refl
       where
         by : (o : Option InodeRec) → inode_at old n ≡ o → held_by n (node_from new o) ≡ held_by n (node_from old o)
@@ -244,7 +244,7 @@ module _ (shape : Shape) (old new : VirtualMap) (bounds : ShapeBounds shape) (sa
         by (Some rec) is = held-record n rec h is
 
     pub held-same : held_in shape new ≡ held_in shape old
-    held-same = all-held shape new ∙ flat-same (held_at new) (held_at old) (range_with_len 0 shape.nodes) (λ n m. held-node n (omega (arith, (member-range n 0 shape.nodes m).1))) ∙ sym (all-held shape old)
+    held-same = all-held shape new ∙ flat-same (pointers_at_node new) (pointers_at_node old) (range_with_len 0 shape.nodes) (λ n m. held-node n (omega (arith, (member-range n 0 shape.nodes m).1))) ∙ sym (all-held shape old)
 
   -- ---- the walk
 

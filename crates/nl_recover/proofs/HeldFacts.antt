@@ -19,7 +19,7 @@ use Rattle.nl_meta.proofs.SlotProofs.{at_index, pointers_length}
 use Rattle.nl_indirect.specs.Ranges.{HasPointers, HasRange, IsFileRecord, address_of, some_pointer}
 use Rattle.nl_indirect.proofs.LawProofs.{file_of_node}
 use Rattle.nl_indirect.proofs.Records.{file-parts}
-use Rattle.nl_recover.specs.Held.{held_at, held_entry, held_from, held_index}
+use Rattle.nl_recover.specs.Held.{pointers_at_node, held_entry, held_from, held_index}
 use Rattle.nl_recover.proofs.Scans.{range-grows, upto}
 
 -- ---- indexes in a row
@@ -127,17 +127,17 @@ module _ (pages : VirtualMap) where
           let d = (file-parts rec is).addresses in
           omega (arith, a, b, c, d)
 
-  pub file-held : (n : ℕ) (rec : InodeRec) → Some rec ≡ inode_at pages n → IsFileRecord rec → held_from pages n rec 0 4104 ≡ held_at pages n
+  pub file-held : (n : ℕ) (rec : InodeRec) → Some rec ≡ inode_at pages n → IsFileRecord rec → held_from pages n rec 0 4104 ≡ pointers_at_node pages n
   file-held n rec at is =
       sym (ap (λ (o : Option InodeRec). held_by n (node_from pages o)) (sym at) ∙ ap (λ (k : Kind). held_by n (record { generation = rec.generation; body = body_of pages rec k })) is.kind ∙ file-list n rec is)
 
-  pub dir-held : (n : ℕ) (rec : InodeRec) → Some rec ≡ inode_at pages n → rec.kind ≡ Dir → [] ≡ held_at pages n
+  pub dir-held : (n : ℕ) (rec : InodeRec) → Some rec ≡ inode_at pages n → rec.kind ≡ Dir → [] ≡ pointers_at_node pages n
   dir-held n rec at is = sym (ap (λ (o : Option InodeRec). held_by n (node_from pages o)) (sym at) ∙ ap (λ (k : Kind). held_by n (record { generation = rec.generation; body = body_of pages rec k })) is)
 
-  pub unused-held : (n : ℕ) (rec : InodeRec) → Some rec ≡ inode_at pages n → rec.kind ≡ Unused → [] ≡ held_at pages n
+  pub unused-held : (n : ℕ) (rec : InodeRec) → Some rec ≡ inode_at pages n → rec.kind ≡ Unused → [] ≡ pointers_at_node pages n
   unused-held n rec at is = sym (ap (λ (o : Option InodeRec). held_by n (node_from pages o)) (sym at) ∙ ap (λ (k : Kind). held_by n (record { generation = rec.generation; body = body_of pages rec k })) is)
 
-  pub none-held : (n : ℕ) → None ≡ inode_at pages n → [] ≡ held_at pages n
+  pub none-held : (n : ℕ) → None ≡ inode_at pages n → [] ≡ pointers_at_node pages n
   none-held n at = sym (ap (λ (o : Option InodeRec). held_by n (node_from pages o)) (sym at))
 
   no-pointer-in : (rec : InodeRec) (r i : ℕ) → slice_index (slots_of rec) r ≡ 0 → 8 + 256 * r ≤ i → i < 8 + 256 * r + 256 → pointer_at pages rec i ≡ no_pointer
@@ -177,11 +177,11 @@ module _ (pages : VirtualMap) (n : ℕ) (rec : InodeRec) where
 -- ---- all files
 
 module _ (shape : Shape) (pages : VirtualMap) where
-  pub all-held : held_in shape pages ≡ upto (held_at pages) shape.nodes
+  pub all-held : held_in shape pages ≡ upto (pointers_at_node pages) shape.nodes
   unfolding pointers_of graph_of
-  all-held = alike (λ n. held_by n (node_from pages (cond (nat_lt n shape.nodes) (inode_at pages n) None))) (held_at pages) (range_with_len 0 shape.nodes) (λ n m. inside n (member-range n 0 shape.nodes m).1)
+  all-held = alike (λ n. held_by n (node_from pages (cond (nat_lt n shape.nodes) (inode_at pages n) None))) (pointers_at_node pages) (range_with_len 0 shape.nodes) (λ n m. inside n (member-range n 0 shape.nodes m).1)
     where
-      inside : (n : ℕ) → n < 0 + shape.nodes → held_by n (node_from pages (cond (nat_lt n shape.nodes) (inode_at pages n) None)) ≡ held_at pages n
+      inside : (n : ℕ) → n < 0 + shape.nodes → held_by n (node_from pages (cond (nat_lt n shape.nodes) (inode_at pages n) None)) ≡ pointers_at_node pages n
       inside n h = ap (λ (o : Option InodeRec). held_by n (node_from pages o)) (cond-true (nat_lt n shape.nodes) (inode_at pages n) None (lt-ltb n shape.nodes (omega (arith, h))))
 
   is-node : (n : ℕ) (rec : InodeRec) → n < shape.nodes → Some rec ≡ inode_at pages n → rec.kind ≡ File → IsNode shape pages n rec

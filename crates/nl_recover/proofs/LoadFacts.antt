@@ -10,7 +10,7 @@ use Rattle.nl_meta.specs.PageLaws.{IsApart}
 use Rattle.nl_meta.specs.Pages.{Pages, page_of}
 use Rattle.nl_meta.specs.Running.{or_stored, running_over}
 use Rattle.nl_meta.specs.Steps.{with_admitted, without_page}
-use Rattle.nl_recover.specs.Loading.{Loads, Settled}
+use Rattle.nl_recover.specs.Loading.{LoadsMetadata, Settled}
 
 -- ---- what a device has
 
@@ -27,7 +27,7 @@ twice None (Some b) = refl
 twice (Some b) s = refl
 
 module _ (tells : Type 0) where
-  pub loads-none : (stored : VirtualMap) (p : Pages) → Loads tells stored p p
+  pub loads-none : (stored : VirtualMap) (p : Pages) → LoadsMetadata tells stored p p
   loads-none stored p = record { count = refl; dirty = refl; frozen = refl; kept = λ u h. refl; each = λ u. inl refl; apart = λ u h. inl h }
 
   module _ (stored stored' : VirtualMap) (same : tells → (u : ℕ) → stored' u ≡ stored u) where
@@ -36,17 +36,17 @@ module _ (tells : Type 0) where
     runs p q u (inl e) t = (λ i. or_stored (e i) (same t u i))
     runs p q u (inr e) t = (λ i. or_stored (e t i) (same t u i)) ∙ twice (page_of p u) (stored u)
 
-    pub settled-later : (p q r : Pages) (u : ℕ) → Loads tells stored p q → Settled tells stored' q r u → Settled tells stored p r u
+    pub settled-later : (p q r : Pages) (u : ℕ) → LoadsMetadata tells stored p q → Settled tells stored' q r u → Settled tells stored p r u
     settled-later p q r u a s t = s t ∙ runs p q u (a.each u) t
 
-    pub settled-stays : (p q r : Pages) (u : ℕ) → Settled tells stored p q u → Loads tells stored p q → Loads tells stored' q r → Settled tells stored p r u
+    pub settled-stays : (p q r : Pages) (u : ℕ) → Settled tells stored p q u → LoadsMetadata tells stored p q → LoadsMetadata tells stored' q r → Settled tells stored p r u
     settled-stays p q r u s a b t = by (b.each u)
       where
         by : (page_of r u ≡ page_of q u) ⊎ (tells → page_of r u ≡ running_over stored' q u) → page_of r u ≡ running_over stored p u
         by (inl e) = e ∙ s t
         by (inr e) = e t ∙ runs p q u (a.each u) t
 
-    pub loads-then : (p q r : Pages) → Loads tells stored p q → Loads tells stored' q r → Loads tells stored p r
+    pub loads-then : (p q r : Pages) → LoadsMetadata tells stored p q → LoadsMetadata tells stored' q r → LoadsMetadata tells stored p r
     loads-then p q r a b = record {
       count = b.count ∙ a.count;
       dirty = b.dirty ∙ a.dirty;
@@ -80,7 +80,7 @@ module _ (tells : Type 0) where
     other u h e = both_ways _ (ap (λ (w : ℕ). is_some (page_of p w)) e ∙ ap is_some gone) h
 
     -- it was read
-    pub admitted-loads : IsApart v → (tells → stored v ≡ Some bytes) → Loads tells stored p (with_admitted p v bytes)
+    pub admitted-loads : IsApart v → (tells → stored v ≡ Some bytes) → LoadsMetadata tells stored p (with_admitted p v bytes)
     unfolding running_over
     admitted-loads apart is = record {
       count = length-set p.running v (Some bytes);
@@ -109,7 +109,7 @@ module _ (tells : Type 0) where
     gone-again = get_or-set_same (set p.running v (Some bytes)) v None None (subst (λ (n : ℕ). v < n) (sym (length-set p.running v (Some bytes))) below)
 
     -- it was not
-    pub dismissed-loads : Loads tells stored p (without_page (with_admitted p v bytes) v)
+    pub dismissed-loads : LoadsMetadata tells stored p (without_page (with_admitted p v bytes) v)
     dismissed-loads = record {
       count = length-set (set p.running v (Some bytes)) v None ∙ length-set p.running v (Some bytes);
       dirty = refl;

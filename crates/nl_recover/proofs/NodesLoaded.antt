@@ -10,7 +10,7 @@ use Rattle.nl_meta.specs.Consistent.{AddressAt}
 use Rattle.nl_meta.specs.Nodes.{bytes_of_node, inode_at, slot_in}
 use Rattle.nl_meta.specs.Pages.{Pages, page_of}
 use Rattle.nl_meta.proofs.Lists.{none_some, some_in}
-use Rattle.nl_recover.specs.Loading.{IsPoolAddress, IsTableAddress, Loads}
+use Rattle.nl_recover.specs.Loading.{IsPoolAddress, IsTableAddress, LoadsMetadata}
 use Rattle.nl_recover.proofs.LookFacts.{inode-none}
 
 at-place : (xs : List ℕ) (k a : ℕ) → slice_get xs k ≡ Some a → (k < length xs) × (get_or xs k 0 ≡ a)
@@ -46,7 +46,7 @@ unfolding inode_at bytes_of_node
 same-node old new n e = ap (λ (o : Option (List ℕ)). inode_of (slot_in 256 (n % 16) (unwrap_or o []))) e
 
 -- the page of a node that has a record stays resident
-pub still-at : (tells : Type 0) (stored : VirtualMap) (shape : Shape) (p q : Pages) → Loads tells stored p q → (n slot a : ℕ) → AddressAt shape (page_of p) n slot a → AddressAt shape (page_of q) n slot a
+pub still-at : (tells : Type 0) (stored : VirtualMap) (shape : Shape) (p q : Pages) → LoadsMetadata tells stored p q → (n slot a : ℕ) → AddressAt shape (page_of p) n slot a → AddressAt shape (page_of q) n slot a
 still-at tells stored shape p q loads n slot a at = record {
   rec = at.rec;
   is_node = record {

@@ -16,7 +16,7 @@ use Rattle.nl_meta.specs.Walk.{EntryPlace, Naming, all_places, is_reached, is_us
 use Rattle.nl_meta.proofs.Kept.{count-more, count-none}
 use Rattle.nl_meta.proofs.Lists.{any_member, flat-member, member-flat, member-range, member-some, member_any, none_some, range-member, some-member, some_in, true_false}
 use Rattle.nl_recover.specs.Entries.{places_in}
-use Rattle.nl_recover.specs.Reaching.{Reached, is_used_record, reached_by, target_of, targets_of, with_node}
+use Rattle.nl_recover.specs.Reaching.{ReachState, is_used_record, reached_by, target_of, targets_of, with_node}
 use Rattle.nl_recover.specs.Scanning.{gathered}
 use Rattle.nl_recover.proofs.EntryFacts.{dirs, listed, of_number}
 use Rattle.nl_recover.proofs.Firsts.{find-filter, first_in_range, none_in_range}
@@ -100,7 +100,7 @@ module _ (shape : Shape) (pages : VirtualMap) where
 
   -- ---- what the walk keeps
 
-  pub record Reaches (done : ℕ) (s : Reached) : Type 0 where
+  pub record Reaches (done : ℕ) (s : ReachState) : Type 0 where
     pub size : length s.marks ≡ shape.nodes
     pub count : length s.queue ≡ length (filter (λ b. b) s.marks)
     pub each : (j : ℕ) → j < length s.queue → (get_or s.queue j 0 < shape.nodes) × (is_reached namings j (get_or s.queue j 0) ≡ true)
@@ -108,12 +108,12 @@ module _ (shape : Shape) (pages : VirtualMap) where
     pub closed : (j t : ℕ) → j < done → j < length s.queue → Has (targets_of pages (get_or s.queue j 0)) t → t < shape.nodes → get_or s.marks t false ≡ true
     pub root : get_or s.marks 0 false ≡ true
 
-  record Grows (s u : Reached) : Type 0 where
+  record Grows (s u : ReachState) : Type 0 where
     longer : length s.queue ≤ length u.queue
     kept : (j : ℕ) → j < length s.queue → get_or u.queue j 0 ≡ get_or s.queue j 0
     marked : (n : ℕ) → get_or s.marks n false ≡ true → get_or u.marks n false ≡ true
 
-  abbrev pushed : Reached → ℕ → Reached
+  abbrev pushed : ReachState → ℕ → ReachState
   pushed s t = record { marks = set s.marks t true; queue = s.queue ++ t ∷ [] }
 
   front : (xs : List ℕ) (t j : ℕ) → j < length xs → get_or (xs ++ t ∷ []) j 0 ≡ get_or xs j 0
@@ -135,7 +135,7 @@ module _ (shape : Shape) (pages : VirtualMap) where
       by (inl is) = ap (λ (k : ℕ). get_or (set marks t true) k false) is ∙ get_or-set_same marks t true false h
       by (inr far) = get_or-set_other marks t n true false far ∙ e
 
-  push : (h t : ℕ) (s : Reached) → Reaches h s → h < length s.queue → Has (targets_of pages (get_or s.queue h 0)) t → t < shape.nodes → get_or s.marks t false ≡ false
+  push : (h t : ℕ) (s : ReachState) → Reaches h s → h < length s.queue → Has (targets_of pages (get_or s.queue h 0)) t → t < shape.nodes → get_or s.marks t false ≡ false
       → Reaches h (pushed s t) × Grows s (pushed s t)
   push h t s r below m inside unmarked = (
     record {
@@ -184,18 +184,18 @@ module _ (shape : Shape) (pages : VirtualMap) where
           let b : j < length s.queue = omega (arith, d, below) in
           marked-more s.marks t u fits (r.closed j u d b (subst (λ (n : ℕ). Has (targets_of pages n) u) (front s.queue t j b) has) u_in)
 
-  record Visits (h : ℕ) (ts : List ℕ) (s u : Reached) : Type 0 where
+  record Visits (h : ℕ) (ts : List ℕ) (s u : ReachState) : Type 0 where
     reaches : Reaches h u
     grows : Grows s u
     named : (t : ℕ) → Has ts t → t < shape.nodes → get_or u.marks t false ≡ true
 
-  stays : (s : Reached) → Grows s s
+  stays : (s : ReachState) → Grows s s
   stays s = record { longer = omega arith; kept = λ j k. refl; marked = λ n e. e }
 
-  already : (s : Reached) (t : ℕ) → t < shape.nodes → (nat_lt t shape.nodes && not (get_or s.marks t false)) ≡ false → get_or s.marks t false ≡ true
+  already : (s : ReachState) (t : ℕ) → t < shape.nodes → (nat_lt t shape.nodes && not (get_or s.marks t false)) ≡ false → get_or s.marks t false ≡ true
   already s t inside e = not-false _ (sym (ap (λ b. b && not (get_or s.marks t false)) (lt-ltb _ _ inside)) ∙ e)
 
-  node-step : (h t : ℕ) (s : Reached) → Reaches h s → h < length s.queue → Has (targets_of pages (get_or s.queue h 0)) t → Visits h (t ∷ []) s (with_node shape.nodes s t)
+  node-step : (h t : ℕ) (s : ReachState) → Reaches h s → h < length s.queue → Has (targets_of pages (get_or s.queue h 0)) t → Visits h (t ∷ []) s (with_node shape.nodes s t)
   node-step h t s r below m = by (cases_Bool (nat_lt t shape.nodes && not (get_or s.marks t false)))
     where
       by : ((nat_lt t shape.nodes && not (get_or s.marks t false)) ≡ true) ⊎ ((nat_lt t shape.nodes && not (get_or s.marks t false)) ≡ false) → Visits h (t ∷ []) s (with_node shape.nodes s t)
@@ -220,7 +220,7 @@ module _ (shape : Shape) (pages : VirtualMap) where
         ];
       })
 
-  then-grows : (s u v : Reached) → Grows s u → Grows u v → Grows s v
+  then-grows : (s u v : ReachState) → Grows s u → Grows u v → Grows s v
   then-grows s u v a b = record {
     longer = let l = a.longer in let m = b.longer in omega (arith, l, m);
     kept = λ j k. b.kept j (inside j k a.longer) ∙ a.kept j k;
@@ -230,7 +230,7 @@ module _ (shape : Shape) (pages : VirtualMap) where
       inside : (j : ℕ) → j < length s.queue → length s.queue ≤ length u.queue → j < length u.queue
       inside j k l = omega (arith, k, l)
 
-  list-step : (h : ℕ) (ts : List ℕ) (s : Reached) → Reaches h s → h < length s.queue → ((t : ℕ) → Has ts t → Has (targets_of pages (get_or s.queue h 0)) t)
+  list-step : (h : ℕ) (ts : List ℕ) (s : ReachState) → Reaches h s → h < length s.queue → ((t : ℕ) → Has ts t → Has (targets_of pages (get_or s.queue h 0)) t)
       → Visits h ts s (gathered (with_node shape.nodes) s ts)
   unfolding gathered
   list-step h [] s r below each = record { reaches = r; grows = stays s; named = λ t m _. absurd m }
@@ -249,8 +249,8 @@ module _ (shape : Shape) (pages : VirtualMap) where
       }
 
   -- one directory of the queue more is done
-  pub done-step : (h : ℕ) (s u : Reached) → Reaches h s → h < length s.queue → u ≡ gathered (with_node shape.nodes) s (targets_of pages (get_or s.queue h 0)) → Reaches (h + 1) u
-  done-step h s u r below is = subst (λ (u : Reached). Reaches (h + 1) u) (sym is) (record {
+  pub done-step : (h : ℕ) (s u : ReachState) → Reaches h s → h < length s.queue → u ≡ gathered (with_node shape.nodes) s (targets_of pages (get_or s.queue h 0)) → Reaches (h + 1) u
+  done-step h s u r below is = subst (λ (u : ReachState). Reaches (h + 1) u) (sym is) (record {
     size = v.reaches.size;
     count = v.reaches.count;
     each = v.reaches.each;
@@ -278,11 +278,11 @@ module _ (shape : Shape) (pages : VirtualMap) where
   few (true ∷ bs) = let h = few bs in omega (arith, h)
   few (false ∷ bs) = let h = few bs in omega (arith, h)
 
-  pub queue-few : (h : ℕ) (s : Reached) → Reaches h s → length s.queue ≤ shape.nodes
+  pub queue-few : (h : ℕ) (s : ReachState) → Reaches h s → length s.queue ≤ shape.nodes
   queue-few h s r = let a = few s.marks in let b = r.count in let c = r.size in omega (arith, a, b, c)
 
   -- once all are done
-  complete : (h : ℕ) (s : Reached) → Reaches h s → length s.queue ≤ h → (k n : ℕ) → n < shape.nodes → is_reached namings k n ≡ true → get_or s.marks n false ≡ true
+  complete : (h : ℕ) (s : ReachState) → Reaches h s → length s.queue ≤ h → (k n : ℕ) → n < shape.nodes → is_reached namings k n ≡ true → get_or s.marks n false ≡ true
   complete h s r all zero n below e = ap (λ (m : ℕ). get_or s.marks m false) (eqb-true n 0 e) ∙ r.root
   complete h s r all (suc k) n below e = by (λ m. complete h s r all k m) (or_cases (n == 0) _ e)
     where
@@ -301,7 +301,7 @@ module _ (shape : Shape) (pages : VirtualMap) where
       by rest (inl root) = ap (λ (m : ℕ). get_or s.marks m false) (eqb-true n 0 root) ∙ r.root
       by rest (inr any) = chain rest (any_member (λ x. x.1.ino == n && is_reached namings k x.0) namings any)
 
-  pub all-marked : (h : ℕ) (s : Reached) → Reaches h s → length s.queue ≤ h → (n : ℕ) → n < shape.nodes → get_or s.marks n false ≡ is_reached namings shape.nodes n
+  pub all-marked : (h : ℕ) (s : ReachState) → Reaches h s → length s.queue ≤ h → (n : ℕ) → n < shape.nodes → get_or s.marks n false ≡ is_reached namings shape.nodes n
   all-marked h s r all n below = by (cases_Bool (get_or s.marks n false)) (cases_Bool (is_reached namings shape.nodes n))
     where
       sound : get_or s.marks n false ≡ true → is_reached namings shape.nodes n ≡ true
@@ -380,18 +380,18 @@ module _ (shape : Shape) (pages : VirtualMap) where
 
   -- ---- one directory, place by place
 
-  pub places-step : (f : ℕ → List EntryPlace) (n : ℕ) (s t u : Reached) → t ≡ gathered (with_node shape.nodes) s (filter_map target_of (upto f n))
+  pub places-step : (f : ℕ → List EntryPlace) (n : ℕ) (s t u : ReachState) → t ≡ gathered (with_node shape.nodes) s (filter_map target_of (upto f n))
       → u ≡ gathered (with_node shape.nodes) t (filter_map target_of (f n)) → u ≡ gathered (with_node shape.nodes) s (filter_map target_of (upto f (n + 1)))
   places-step f n s t u a b =
-      b ∙ ap (λ (v : Reached). gathered (with_node shape.nodes) v (filter_map target_of (f n))) a
+      b ∙ ap (λ (v : ReachState). gathered (with_node shape.nodes) v (filter_map target_of (f n))) a
       ∙ sym (ap (λ (ps : List EntryPlace). gathered (with_node shape.nodes) s (filter_map target_of ps)) (grows f n) ∙ ap (gathered (with_node shape.nodes) s) (filter_map-append target_of (upto f n) (f n))
       ∙ gathered-append (λ _ _. false) (with_node shape.nodes) s (filter_map target_of (upto f n)) (filter_map target_of (f n)))
 
-  pub nothing-named : (s : Reached) (ts : List ℕ) → ts ≡ [] → s ≡ gathered (with_node shape.nodes) s ts
+  pub nothing-named : (s : ReachState) (ts : List ℕ) → ts ≡ [] → s ≡ gathered (with_node shape.nodes) s ts
   unfolding gathered
   nothing-named s ts e = sym (ap (gathered (with_node shape.nodes) s) e)
 
-  pub one-named : (s u : Reached) (t : ℕ) (ts : List ℕ) → t ∷ [] ≡ ts → u ≡ with_node shape.nodes s t → u ≡ gathered (with_node shape.nodes) s ts
+  pub one-named : (s u : ReachState) (t : ℕ) (ts : List ℕ) → t ∷ [] ≡ ts → u ≡ with_node shape.nodes s t → u ≡ gathered (with_node shape.nodes) s ts
   unfolding gathered
   one-named s u t ts e is = is ∙ ap (gathered (with_node shape.nodes) s) e
 

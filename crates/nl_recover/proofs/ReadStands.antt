@@ -8,11 +8,11 @@ use Rattle.nl_journal.proofs.BackStands.{stored-same}
 use Rattle.nl_meta.specs.Committed.{VirtualMap}
 use Rattle.nl_meta.specs.Pages.{Pages, page_of}
 use Rattle.nl_meta.specs.Running.{running_over}
-use Rattle.nl_recover.specs.Loading.{Loads}
+use Rattle.nl_recover.specs.Loading.{LoadsMetadata}
 use Rattle.nl_recover.specs.Looking.{LooksAlike}
 
 module _ {D : Type 0} (g : Ghosts D) where
-  pub loads-on : (s t : D) (p q : Pages) → KeepsVirtual g s t → Loads g.tells (map_bytes (g.shape s) (g.map s)) p q → Loads g.tells (map_bytes (g.shape t) (g.map t)) p q
+  pub loads-on : (s t : D) (p q : Pages) → KeepsVirtual g s t → LoadsMetadata g.tells (map_bytes (g.shape s) (g.map s)) p q → LoadsMetadata g.tells (map_bytes (g.shape t) (g.map t)) p q
   loads-on s t p q k l = record {
     count = l.count;
     dirty = l.dirty;

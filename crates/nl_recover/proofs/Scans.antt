@@ -5,7 +5,7 @@ use Rattle.std.proofs.lemmas.Grind.{flat_map-append}
 use Rattle.std.specs.List.{range_with_len}
 use Rattle.nl_meta.specs.Walk.{first_after}
 use Rattle.nl_meta.proofs.Lists.{map_none, none_some}
-use Rattle.nl_recover.specs.Scanning.{Passes, first_with, gathered}
+use Rattle.nl_recover.specs.Scanning.{PassesOver, first_with, gathered}
 
 -- ---- ranges
 
@@ -83,7 +83,7 @@ module _ {X S : Type 0} (bad : S → X → Bool) (next : S → X → S) where
 
 module _ {X S : Type 0} (bad : S → X → Bool) (next : S → X → S) (place : X → ℕ) where
   abbrev Goes : S → S → List X → Option ℕ → Type 0
-  Goes old new xs answer = Passes bad next place old new xs answer
+  Goes old new xs answer = PassesOver bad next place old new xs answer
 
   pub pass-nil : (s : S) → Goes s s [] None
   unfolding first_with gathered

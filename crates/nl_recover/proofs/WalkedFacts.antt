@@ -13,7 +13,7 @@ use Rattle.nl_iface.specs.Device.{IsVolumeShape}
 use Rattle.nl_iface.specs.declared.counts.Counts.{Ghosts}
 use Rattle.nl_inode.specs.Nodes.{AreFree, Spaces}
 use Rattle.nl_journal.specs.Progress.{Progress}
-use Rattle.nl_journal.specs.Standing.{InOrder}
+use Rattle.nl_journal.specs.Standing.{JournalInOrder}
 use Rattle.nl_journal.specs.declared.answers.Phase.TheVariants.{Header, Home}
 use Rattle.nl_journal.proofs.Openings.{opens_in_order}
 use Rattle.nl_meta.specs.Committed.{VirtualMap, committed}
@@ -27,11 +27,11 @@ use Rattle.nl_meta.proofs.Lists.{none_some}
 use Rattle.nl_meta.proofs.WalkProofs.{walk_over_is_consistency}
 use Rattle.nl_meta_running.specs.Running.{IsNeeded, running_on, stored_on}
 use Rattle.nl_meta_running.proofs.Holds.{bounds-of}
-use Rattle.nl_recover.specs.Loading.{Loads}
+use Rattle.nl_recover.specs.Loading.{LoadsMetadata}
 use Rattle.nl_recover.specs.Looking.{LooksAlike}
-use Rattle.nl_recover.specs.Recovering.{Begins, Finds, IfDamaged, IfReady, IsFault, IsFirstFault, IsWalked, Walks, count_in}
+use Rattle.nl_recover.specs.Recovering.{BeginsFromWalk, FindsFault, IfDamaged, IfRecovered, IsRecoverFault, IsFirstFault, IsWalked, Walks, count_in}
 use Rattle.nl_journal.specs.Restoring.{BringsBack, HasRestored}
-use Rattle.nl_recover.specs.Reading.{IsRead}
+use Rattle.nl_recover.specs.Reading.{MetadataIsRead}
 use Rattle.nl_recover.specs.declared.metadata.Metadata.{Metadata}
 use Rattle.nl_recover.specs.declared.opening.Recovered.{Recovered}
 use Rattle.nl_recover.specs.declared.opening.Recovered.TheVariants.{Ready, Damaged, Fault, Memory}
@@ -121,13 +121,13 @@ module _ (shape : Shape) (bounds : ShapeBounds shape) (seen : List Seen) (p : Pa
 
 -- ---- over a device
 
-pub begins-own : (shape : Shape) (seen : List Seen) (journal : Progress) (p : Pages) (w : Walked) → Begins shape seen journal p w → Begins shape seen journal w.meta w
-begins-own shape seen journal p w b = subst (λ (q : Pages). Begins shape seen journal q w) (sym b.same_pages) b
+pub begins-own : (shape : Shape) (seen : List Seen) (journal : Progress) (p : Pages) (w : Walked) → BeginsFromWalk shape seen journal p w → BeginsFromWalk shape seen journal w.meta w
+begins-own shape seen journal p w b = subst (λ (q : Pages). BeginsFromWalk shape seen journal q w) (sym b.same_pages) b
 
 module _ {D : Type 0} (g : Ghosts D) where
   module _ (s : D) (seen : List Seen) (journal : Progress) (p : Pages) (volume : IsVolumeShape (g.shape s)) (back : BringsBack g s journal p) where
     -- a page that was loaded, neither dirty nor frozen, is the device's
-    clean-loaded : (q : Pages) → Loads g.tells (stored_on g s) p q → g.tells → CleanIsStored (stored_on g s) q
+    clean-loaded : (q : Pages) → LoadsMetadata g.tells (stored_on g s) p q → g.tells → CleanIsStored (stored_on g s) q
     unfolding running_over
     clean-loaded q l tells = record { each = λ u bytes at d f. by u bytes at (back.frozen u (ap (λ (fs : Frozen). list_any (λ a. a == u) fs.addresses) (sym l.frozen) ∙ f)) (l.each u) }
       where
@@ -135,11 +135,11 @@ module _ {D : Type 0} (g : Ghosts D) where
         by u bytes at gone (inl e) = absurd (none_some bytes (sym gone ∙ sym e ∙ at))
         by u bytes at gone (inr e) = sym (ap (λ (o : Option (List ℕ)). or_stored o (stored_on g s u)) gone) ∙ sym (e tells) ∙ at
 
-    pub same-loaded : (q : Pages) → Loads g.tells (stored_on g s) p q → g.tells → (v : ℕ) → running_on g s q v ≡ committed (g.shape s) (stored_on g s) v
+    pub same-loaded : (q : Pages) → LoadsMetadata g.tells (stored_on g s) p q → g.tells → (v : ℕ) → running_on g s q v ≡ committed (g.shape s) (stored_on g s) v
     same-loaded q l tells v = runs g.tells (stored_on g s) (stored_on g s) (λ _ _. refl) p q v (l.each v) tells ∙ back.same tells v
 
     -- no page of the journal was loaded
-    apart-loaded : (q : Pages) → Loads g.tells (stored_on g s) p q → (v : ℕ) → 1 ≤ v → v < 67 → page_of q v ≡ None
+    apart-loaded : (q : Pages) → LoadsMetadata g.tells (stored_on g s) p q → (v : ℕ) → 1 ≤ v → v < 67 → page_of q v ≡ None
     apart-loaded q l v low high = by (page_of q v) refl
       where
         none : (b : List ℕ) → page_of q v ≡ Some b → IsSome (page_of p v) ⊎ IsApart v → ⊥
@@ -152,7 +152,7 @@ module _ {D : Type 0} (g : Ghosts D) where
         by (Some b) e = absurd (none b e (l.apart v (ap is_some e)))
 
     -- each page that was restored stays
-    restored-loaded : (q : Pages) → Loads g.tells (stored_on g s) p q → HasRestored journal q
+    restored-loaded : (q : Pages) → LoadsMetadata g.tells (stored_on g s) p q → HasRestored journal q
     restored-loaded q l = record {
       due = subst (λ (f : Frozen). ((journal.phase ≡ Header) × (f ≡ none_frozen)) ⊎ ((journal.phase ≡ Home 0) × (1 ≤ length f.addresses))) (sym l.frozen) back.restored.due;
       runs = subst (λ (f : Frozen). (i : ℕ) → i < length f.addresses → page_of q (get_or f.addresses i 0) ≡ Some (get_or f.images i [])) (sym l.frozen)
@@ -166,7 +166,7 @@ module _ {D : Type 0} (g : Ghosts D) where
         ap (λ (f : VirtualMap). walk_over (g.shape s) f seen) (λ i v. sym (back.same tells v) i)
         ∙ sym (walks_alike (g.shape s) (running_over (stored_on g s) p) (page_of q) seen (bounds-of (g.shape s) volume) (alike tells))
 
-    pub is-walked : (w : Walked) → Loads g.tells (stored_on g s) p w.meta → Begins (g.shape s) seen journal w.meta w → IsWalked g s seen w
+    pub is-walked : (w : Walked) → LoadsMetadata g.tells (stored_on g s) p w.meta → BeginsFromWalk (g.shape s) seen journal w.meta w → IsWalked g s seen w
     is-walked w l b = record {
       consistent = sound;
       same = same-loaded w.meta l;
@@ -189,8 +189,8 @@ module _ {D : Type 0} (g : Ghosts D) where
       restored = subst (λ (j : Progress). HasRestored j w.meta) (sym b.same_journal) (restored-loaded w.meta l);
       number = λ tells. ap (λ (j : Progress). j.number + 1) b.same_journal ∙ back.number tells;
       order = λ none.
-          subst (λ (j : Progress). InOrder g s j w.meta.frozen) (sym b.same_journal)
-          (subst (λ (f : Frozen). InOrder g s journal f) (sym l.frozen)
+          subst (λ (j : Progress). JournalInOrder g s j w.meta.frozen) (sym b.same_journal)
+          (subst (λ (f : Frozen). JournalInOrder g s journal f) (sym l.frozen)
           (opens_in_order g s journal p.frozen volume back.phase back.pages (λ tells. (none tells, back.opened tells))));
     }
       where
@@ -217,16 +217,16 @@ module _ {D : Type 0} (g : Ghosts D) where
 
   -- ---- what the answer tells
 
-  module _ (t : D) (seen : List Seen) (m : Metadata) (shape : Shape) (e : shape ≡ g.shape t) (volume : IsVolumeShape (g.shape t)) (read : IsRead g t m) where
-    pub walked-of : (r : Recovered) → Walks shape seen m.journal m.meta r → IfReady r (IsWalked g t seen)
+  module _ (t : D) (seen : List Seen) (m : Metadata) (shape : Shape) (e : shape ≡ g.shape t) (volume : IsVolumeShape (g.shape t)) (read : MetadataIsRead g t m) where
+    pub walked-of : (r : Recovered) → Walks shape seen m.journal m.meta r → IfRecovered r (IsWalked g t seen)
     walked-of (Ready w) b =
-        is-walked t seen m.journal read.restored volume read.back w (subst (λ (p : Pages). Loads g.tells (stored_on g t) read.restored p) (sym b.same_pages) read.loads)
-        (begins-own (g.shape t) seen m.journal m.meta w (subst (λ (s : Shape). Begins s seen m.journal m.meta w) e b))
+        is-walked t seen m.journal read.restored volume read.back w (subst (λ (p : Pages). LoadsMetadata g.tells (stored_on g t) read.restored p) (sym b.same_pages) read.loads)
+        (begins-own (g.shape t) seen m.journal m.meta w (subst (λ (s : Shape). BeginsFromWalk s seen m.journal m.meta w) e b))
     walked-of (Damaged place) b = tt
     walked-of Fault b = tt
     walked-of Memory b = tt
 
-    pub finds-of : (s : D) → KeepsVirtual g s t → g.tells → (r : Recovered) → Walks shape seen m.journal m.meta r → Finds (walk_over shape (committed shape (stored_on g s)) seen) r
+    pub finds-of : (s : D) → KeepsVirtual g s t → g.tells → (r : Recovered) → Walks shape seen m.journal m.meta r → FindsFault (walk_over shape (committed shape (stored_on g s)) seen) r
     finds-of s k tells r b = by r b
       where
         same : walk_over shape (committed shape (stored_on g s)) seen ≡ walk_over shape (page_of m.meta) seen
@@ -236,25 +236,25 @@ module _ {D : Type 0} (g : Ghosts D) where
             ∙ told-walk t seen m.journal read.restored volume read.back m.meta read.alike tells
             ∙ ap (λ (h : Shape). walk_over h (page_of m.meta) seen) (sym e)
 
-        by : (r : Recovered) → Walks shape seen m.journal m.meta r → Finds (walk_over shape (committed shape (stored_on g s)) seen) r
+        by : (r : Recovered) → Walks shape seen m.journal m.meta r → FindsFault (walk_over shape (committed shape (stored_on g s)) seen) r
         by (Ready w) b = same ∙ b.sound
         by (Damaged place) b = same ∙ b
         by Fault b = tt
         by Memory b = tt
 
-pub damaged-of : {D : Type 0} (g : Ghosts D) (s : D) (shape : Shape) (seen : List Seen) (m : Metadata) (r : Recovered) → IsRead g s m → Walks shape seen m.journal m.meta r → IfDamaged r (IsFirstFault g s shape seen)
+pub damaged-of : {D : Type 0} (g : Ghosts D) (s : D) (shape : Shape) (seen : List Seen) (m : Metadata) (r : Recovered) → MetadataIsRead g s m → Walks shape seen m.journal m.meta r → IfDamaged r (IsFirstFault g s shape seen)
 damaged-of g s shape seen m (Ready w) is b = tt
 damaged-of g s shape seen m (Damaged place) is b = (m, is, b)
 damaged-of g s shape seen m Fault is b = tt
 damaged-of g s shape seen m Memory is b = tt
 
-no-fault : (shape : Shape) (seen : List Seen) (journal : Progress) (p : Pages) (r : Recovered) → Walks shape seen journal p r → IsFault r → ⊥
+no-fault : (shape : Shape) (seen : List Seen) (journal : Progress) (p : Pages) (r : Recovered) → Walks shape seen journal p r → IsRecoverFault r → ⊥
 no-fault shape seen journal p (Ready w) b f = f
 no-fault shape seen journal p (Damaged place) b f = f
 no-fault shape seen journal p Fault b f = b
 no-fault shape seen journal p Memory b f = f
 
-pub counted-of : (shape : Shape) (seen : List Seen) (journal : Progress) (p : Pages) (r : Recovered) (before now : ℕ) → Walks shape seen journal p r → FailuresCounted ⊤ before now ⊥ → FailuresCounted ⊤ before now (IsFault r)
+pub counted-of : (shape : Shape) (seen : List Seen) (journal : Progress) (p : Pages) (r : Recovered) (before now : ℕ) → Walks shape seen journal p r → FailuresCounted ⊤ before now ⊥ → FailuresCounted ⊤ before now (IsRecoverFault r)
 counted-of shape seen journal p r before now b f = record {
   never_falls = f.never_falls;
   cause = λ is. absurd (no-fault shape seen journal p r b is);

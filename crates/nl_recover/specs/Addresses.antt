@@ -7,7 +7,7 @@ use Rattle.nl_meta.specs.Committed.{VirtualMap}
 use Rattle.nl_meta.specs.Nodes.{bytes_at, is_physical_name, slot_in}
 use Rattle.nl_indirect.specs.Ranges.{pointer_in}
 use Rattle.nl_meta.specs.Walk.{addresses_of, is_good_indirect, is_used_kind}
-use Rattle.nl_recover.specs.Scanning.{Passes}
+use Rattle.nl_recover.specs.Scanning.{PassesOver}
 
 -- a page that is missing, or one of a file that is no page of pointers
 abbrev pub is_bad_page : Shape → VirtualMap → Bool → ℕ → Bool
@@ -35,7 +35,7 @@ address_at (of_file, a) = a
 
 -- A pass over these addresses marks each, and answers the first at fault.
 abbrev pub PassesAddresses : Shape → VirtualMap → List Bool → List Bool → List (Bool × ℕ) → Option ℕ → Type 0
-PassesAddresses shape pages old new addresses answer = Passes (is_bad_marked shape pages) with_mark address_at old new addresses answer
+PassesAddresses shape pages old new addresses answer = PassesOver (is_bad_marked shape pages) with_mark address_at old new addresses answer
 
 -- A slot of a page spells a pointer, which is none or names a page of the physical segment.
 pub record SpelledAt (shape : Shape) (bytes : List ℕ) (j : ℕ) : Type 0 where

@@ -10,7 +10,7 @@ use Rattle.nl_field.specs.declared.shape.Shape.{Shape}
 use Rattle.nl_meta.specs.Committed.{VirtualMap}
 use Rattle.nl_meta.specs.Nodes.{address_of_place, bytes_of_place, inode_at}
 use Rattle.nl_meta.specs.Walk.{EntryPlace, has_generation, is_used_kind, places_of}
-use Rattle.nl_recover.specs.Scanning.{Passes}
+use Rattle.nl_recover.specs.Scanning.{PassesOver}
 
 -- of each node whether an entry named it, and the names of the directory so far
 pub record Named : Type 0 where
@@ -44,7 +44,7 @@ dir_of_place p = p.dir
 
 -- A pass over these places marks what each names, and answers the directory of the first at fault.
 abbrev pub PassesPlaces : Shape → VirtualMap → Named → Named → List EntryPlace → Option ℕ → Type 0
-PassesPlaces shape pages old new places answer = Passes (is_bad_among shape pages) with_place dir_of_place old new places answer
+PassesPlaces shape pages old new places answer = PassesOver (is_bad_among shape pages) with_place dir_of_place old new places answer
 
 -- the place of a directory, if its page is there
 abbrev pub place_there : VirtualMap → ℕ → InodeRec → ℕ → List EntryPlace
@@ -57,7 +57,7 @@ places_in pages n None = []
 places_in pages n (Some rec) = if is_used_kind rec.kind then places_of pages (n, rec) else []
 
 -- What naming one entry does.
-pub record Names (shape : Shape) (pages : VirtualMap) (old new : Named) (entry : Option EntryRec) (bad : Bool) : Type 0 where
+pub record NamesEntry (shape : Shape) (pages : VirtualMap) (old new : Named) (entry : Option EntryRec) (bad : Bool) : Type 0 where
   pub answer : bad ≡ is_bad_entry shape pages old entry
   pub named : bad ≡ false → new ≡ with_entry old entry
 

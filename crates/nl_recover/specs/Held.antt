@@ -21,8 +21,8 @@ unfoldable pub held_from : VirtualMap → ℕ → InodeRec → ℕ → ℕ → L
 held_from pages n rec from count = flat_map (held_index pages n rec) (range_with_len from count)
 
 -- the pointers of a node
-abbrev pub held_at : VirtualMap → ℕ → List Held
-held_at pages n = held_by n (node_from pages (inode_at pages n))
+abbrev pub pointers_at_node : VirtualMap → ℕ → List Held
+pointers_at_node pages n = held_by n (node_from pages (inode_at pages n))
 
 -- the phases that look at metadata alone, and those that look at pointers
 abbrev pub metadata_phases : List What

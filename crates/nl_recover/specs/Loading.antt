@@ -8,7 +8,7 @@ use Rattle.nl_meta.specs.Running.{running_over}
 
 -- Pages of a device that has these bytes were made resident, none of them the journal's. Each page that was there stays, and nothing else
 -- changes.
-pub record Loads (tells : Type 0) (stored : VirtualMap) (old new : Pages) : Type 0 where
+pub record LoadsMetadata (tells : Type 0) (stored : VirtualMap) (old new : Pages) : Type 0 where
   pub count : length new.running ≡ length old.running
   pub dirty : new.dirty ≡ old.dirty
   pub frozen : new.frozen ≡ old.frozen

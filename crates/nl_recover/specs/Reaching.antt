@@ -8,15 +8,15 @@ use Rattle.nl_meta.specs.Walk.{EntryPlace, is_used_kind}
 use Rattle.nl_recover.specs.Entries.{places_in}
 
 -- of each node whether it was reached, and the nodes that were, in order
-pub record Reached : Type 0 where
+pub record ReachState : Type 0 where
   pub marks : List Bool
   pub queue : List ℕ
 
-abbrev pub reached_by : List Bool → List ℕ → Reached
+abbrev pub reached_by : List Bool → List ℕ → ReachState
 reached_by marks queue = record { marks = marks; queue = queue }
 
 -- the nodes that were reached, with one more that lies below the count
-abbrev pub with_node : ℕ → Reached → ℕ → Reached
+abbrev pub with_node : ℕ → ReachState → ℕ → ReachState
 with_node nodes s n =
     if nat_lt n nodes && not (slice_index_or s.marks n false) then record { marks = slice_set s.marks n true; queue = s.queue ++ n ∷ [] }
     else s

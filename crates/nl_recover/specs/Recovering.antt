@@ -10,15 +10,15 @@ use Rattle.nl_inode.specs.Nodes.{AreFree}
 use Rattle.nl_journal.specs.Outcomes.{bytes_of}
 use Rattle.nl_journal.specs.Progress.{Progress}
 use Rattle.nl_journal.specs.Restoring.{HasRestored}
-use Rattle.nl_journal.specs.Standing.{InOrder}
+use Rattle.nl_journal.specs.Standing.{JournalInOrder}
 use Rattle.nl_meta.specs.Committed.{committed, next_number}
 use Rattle.nl_meta.specs.Consistent.{ConsistentOver}
 use Rattle.nl_meta.specs.Nodes.{held_in, super_of_pages}
 use Rattle.nl_meta.specs.Pages.{Pages, page_of}
 use Rattle.nl_meta.specs.Walk.{walk_over}
-use Rattle.nl_meta_running.specs.Running.{IsNeeded, Runs, running_on, stored_on}
+use Rattle.nl_meta_running.specs.Running.{IsNeeded, RunningIsRight, running_on, stored_on}
 use Rattle.nl_recover.specs.Freeing.{SpacesOf}
-use Rattle.nl_recover.specs.Reading.{IsRead}
+use Rattle.nl_recover.specs.Reading.{MetadataIsRead}
 use Rattle.nl_recover.specs.declared.metadata.Metadata.{Metadata}
 use Rattle.nl_recover.specs.declared.opening.Recovered.{Recovered}
 use Rattle.nl_recover.specs.declared.opening.Recovered.TheVariants.{Ready, Damaged, Fault, Memory}
@@ -35,7 +35,7 @@ pub record IsWalked {D : Type 0} (g : Ghosts D) (s : D) (seen : List Seen) (w : 
   pub super_resident : IsSome (page_of w.meta 0)
   -- none of the journal's addresses is resident
   pub apart : (v : ℕ) → 1 ≤ v → v < 67 → page_of w.meta v ≡ None
-  pub runs : Runs g s w.meta
+  pub runs : RunningIsRight g s w.meta
   -- what the running pages do not use is free
   pub free : AreFree (g.shape s) (running_on g s w.meta) w.nodes
   pub spaces : SpacesOf (g.shape s) w.nodes
@@ -46,13 +46,13 @@ pub record IsWalked {D : Type 0} (g : Ghosts D) (s : D) (seen : List Seen) (w : 
   -- is in order.
   pub restored : HasRestored w.journal w.meta
   pub number : g.tells → w.journal.number + 1 ≡ next_number (g.shape s) (bytes_of (g.map s))
-  pub order : (g.tells → NoneFailed (g.shape s).vaddrs (g.failed s)) → InOrder g s w.journal w.meta.frozen
+  pub order : (g.tells → NoneFailed (g.shape s).vaddrs (g.failed s)) → JournalInOrder g s w.journal w.meta.frozen
 
-abbrev pub IfReady : Recovered → (Walked → Type 0) → Type 0
-IfReady (Ready w) P = P w
-IfReady (Damaged place) P = ⊤
-IfReady Fault P = ⊤
-IfReady Memory P = ⊤
+abbrev pub IfRecovered : Recovered → (Walked → Type 0) → Type 0
+IfRecovered (Ready w) P = P w
+IfRecovered (Damaged place) P = ⊤
+IfRecovered Fault P = ⊤
+IfRecovered Memory P = ⊤
 
 abbrev pub IfDamaged : Recovered → (Place → Type 0) → Type 0
 IfDamaged (Ready w) P = ⊤
@@ -62,27 +62,27 @@ IfDamaged Memory P = ⊤
 
 -- A walk over pages as they can have been read from the device, beside the list of the scan, finds its first fault there.
 abbrev pub IsFirstFault : {D : Type 0} → Ghosts D → D → Shape → List Seen → Place → Type 0
-IsFirstFault g s shape seen place = (m : Metadata) × IsRead g s m × (walk_over shape (page_of m.meta) seen ≡ Some place)
+IsFirstFault g s shape seen place = (m : Metadata) × MetadataIsRead g s m × (walk_over shape (page_of m.meta) seen ≡ Some place)
 
 -- An opening that reads all it needs is ready exactly where a walk finds no fault, and else damaged at the first one.
-abbrev pub Finds : Option Place → Recovered → Type 0
-Finds fault (Ready w) = fault ≡ None
-Finds fault (Damaged place) = fault ≡ Some place
-Finds fault Fault = ⊤
-Finds fault Memory = ⊤
+abbrev pub FindsFault : Option Place → Recovered → Type 0
+FindsFault fault (Ready w) = fault ≡ None
+FindsFault fault (Damaged place) = fault ≡ Some place
+FindsFault fault Fault = ⊤
+FindsFault fault Memory = ⊤
 
-abbrev pub IsFault : Recovered → Type 0
-IsFault (Ready w) = ⊥
-IsFault (Damaged place) = ⊥
-IsFault Fault = ⊤
-IsFault Memory = ⊥
+abbrev pub IsRecoverFault : Recovered → Type 0
+IsRecoverFault (Ready w) = ⊥
+IsRecoverFault (Damaged place) = ⊥
+IsRecoverFault Fault = ⊤
+IsRecoverFault Memory = ⊥
 
 abbrev pub count_in : Option SuperRec → ℕ
 count_in None = 0
 count_in (Some rec) = rec.count
 
 -- A walk over the pages that are resident found no fault, and this is what they tell.
-pub record Begins (shape : Shape) (seen : List Seen) (journal : Progress) (p : Pages) (w : Walked) : Type 0 where
+pub record BeginsFromWalk (shape : Shape) (seen : List Seen) (journal : Progress) (p : Pages) (w : Walked) : Type 0 where
   pub sound : walk_over shape (page_of p) seen ≡ None
   pub same_journal : w.journal ≡ journal
   pub same_pages : w.meta ≡ p
@@ -92,7 +92,7 @@ pub record Begins (shape : Shape) (seen : List Seen) (journal : Progress) (p : P
   pub kept : w.kept.items ≡ map (λ h. h.pointer) (held_in shape (page_of p))
 
 abbrev pub Walks : Shape → List Seen → Progress → Pages → Recovered → Type 0
-Walks shape seen journal p (Ready w) = Begins shape seen journal p w
+Walks shape seen journal p (Ready w) = BeginsFromWalk shape seen journal p w
 Walks shape seen journal p (Damaged place) = walk_over shape (page_of p) seen ≡ Some place
 Walks shape seen journal p Fault = ⊥
 Walks shape seen journal p Memory = ⊥

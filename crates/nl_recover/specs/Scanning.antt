@@ -12,7 +12,7 @@ first_with bad next s (x ∷ xs) = let later = first_with bad next (next s x) xs
 
 -- A pass over these began with what was gathered before. It answers the place of the first one at fault, and where none is, leaves what
 -- is gathered then.
-pub record Passes {X S : Type 0} (bad : S → X → Bool) (next : S → X → S) (place : X → ℕ) (old new : S) (xs : List X)
+pub record PassesOver {X S : Type 0} (bad : S → X → Bool) (next : S → X → S) (place : X → ℕ) (old new : S) (xs : List X)
     (answer : Option ℕ) : Type 0 where
   pub first : answer ≡ option_map place (first_with bad next old xs)
   pub rest : answer ≡ None → new ≡ gathered next old xs

@@ -6,10 +6,10 @@ use Rattle.nl_iface.specs.declared.counts.Counts.{Ghosts}
 use Rattle.nl_journal.specs.Homes.{AreHome, copied}
 use Rattle.nl_journal.specs.Outcomes.{bytes_of}
 use Rattle.nl_journal.specs.Progress.{units_left}
-use Rattle.nl_journal.specs.Standing.{InOrder}
+use Rattle.nl_journal.specs.Standing.{JournalInOrder}
 use Rattle.nl_journal.specs.Transaction.{main_at}
 use Rattle.nl_meta.specs.Pages.{page_of}
-use Rattle.nl_meta_running.specs.Running.{Runs}
+use Rattle.nl_meta_running.specs.Running.{RunningIsRight}
 use Rattle.nl_recover.specs.Recovering.{IsWalked}
 use Rattle.nl_recover.specs.declared.opening.Walked.{Walked}
 
@@ -17,8 +17,8 @@ use Rattle.nl_recover.specs.declared.opening.Walked.{Walked}
 -- each of them runs as it was frozen, and no transaction waits for its commit page. The super page is resident, and no page of the
 -- journal's addresses is.
 pub record Starts {D : Type 0} (g : Ghosts D) (s : D) (w : Walked) : Type 0 where
-  pub runs : Runs g s w.meta
-  pub order : InOrder g s w.journal w.meta.frozen
+  pub runs : RunningIsRight g s w.meta
+  pub order : JournalInOrder g s w.journal w.meta.frozen
   pub home : g.tells → AreHome w.meta.frozen (copied w.journal.phase) (bytes_of (g.map s))
   pub frozen : (i : ℕ) → i < length w.meta.frozen.addresses
       → page_of w.meta (slice_index w.meta.frozen.addresses i) ≡ Some (main_at w.meta.frozen.images i)

@@ -12,6 +12,6 @@ abbrev pub place_in : What → ℕ → Place
 place_in what n = record { place = n; what = what }
 
 -- A walk answers that a volume is damaged at the first fault, or sound, exactly where there is none, with the pointers of all files.
-abbrev pub Answers : Shape → VirtualMap → Option Place → Outcome → Type 0
-Answers shape pages fault (Sound held) = (fault ≡ None) × (held ≡ held_in shape pages)
-Answers shape pages fault (Damaged place) = fault ≡ Some place
+abbrev pub AnswersWalk : Shape → VirtualMap → Option Place → Outcome → Type 0
+AnswersWalk shape pages fault (Sound held) = (fault ≡ None) × (held ≡ held_in shape pages)
+AnswersWalk shape pages fault (Damaged place) = fault ≡ Some place

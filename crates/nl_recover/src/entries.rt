@@ -7,7 +7,7 @@ ghost use Rattle.nl_field.specs.Numbers.{ShapeBounds};
 ghost use Rattle.nl_meta.specs.Nodes.{address_of_place, inode_at, slot_in};
 ghost use Rattle.nl_meta.specs.Pages.{page_of};
 ghost use Rattle.nl_meta.specs.Walk.{entry_fault, has_generation, places_of};
-ghost use Rattle.nl_recover.specs.Entries.{Names, NamesSlot, PassesPlaces, is_bad_entry, named_by, place_there, places_in};
+ghost use Rattle.nl_recover.specs.Entries.{NamesEntry, NamesSlot, PassesPlaces, is_bad_entry, named_by, place_there, places_in};
 
 use crate::look::{are_zero, inode};
 use nl_field::{EntryRec, InodeRec, Kind, Memory, Name, PageBuf, Shape};
@@ -183,7 +183,7 @@ fn name(
 ) -> Result<bool, Memory>
     requires { length nodes.old.items ≡ shape.now.nodes }
     ensures size { length nodes.new.items ≡ length nodes.old.items }
-    ensures names { IfOk result (Names shape.now (page_of meta.now) (named_by nodes.old.items names.old.items)
+    ensures names { IfOk result (NamesEntry shape.now (page_of meta.now) (named_by nodes.old.items names.old.items)
         (named_by nodes.new.items names.new.items) entry) }
 {
     match entry {

@@ -5,7 +5,7 @@ ghost use Rattle.nl_indirect.specs.Ranges.{HasRange, IsFileRecord};
 ghost use Rattle.nl_meta.specs.Consistent.{AddressesRight};
 ghost use Rattle.nl_meta.specs.Nodes.{held_in};
 ghost use Rattle.nl_meta.specs.Pages.{page_of};
-ghost use Rattle.nl_recover.specs.Held.{held_at, held_from, held_index};
+ghost use Rattle.nl_recover.specs.Held.{pointers_at_node, held_from, held_index};
 
 use crate::look::inode;
 use nl_field::{InodeRec, Kind, Memory, Shape, Tag};
@@ -32,7 +32,7 @@ fn node_held(held: &mut HeldList, shape: &Shape, meta: &Meta, ino: u32) -> Resul
     requires addresses { AddressesRight shape.now (page_of meta.now) }
     requires below { ino < shape.now.nodes }
     requires few { length held.old + 4104 < 2 ^ 32 }
-    ensures held { OnOk result (held.new ≡ held.old ++ held_at (page_of meta.now) ino) }
+    ensures held { OnOk result (held.new ≡ held.old ++ pointers_at_node (page_of meta.now) ino) }
     ensures longer { length held.new ≤ length held.old + 4104 }
 {
     match inode(meta, ino) {

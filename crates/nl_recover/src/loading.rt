@@ -8,7 +8,7 @@ ghost use Rattle.nl_meta.specs.PageLaws.{IsApart};
 ghost use Rattle.nl_meta.specs.Pages.{page_of};
 ghost use Rattle.nl_meta.specs.Running.{running_over};
 ghost use Rattle.nl_recover.specs.Filling.{FillsFrom};
-ghost use Rattle.nl_recover.specs.Loading.{IsPoolAddress, IsTableAddress, Loads, Settled};
+ghost use Rattle.nl_recover.specs.Loading.{IsPoolAddress, IsTableAddress, LoadsMetadata, Settled};
 ghost use Rattle.nl_recover.specs.Looking.{LooksAlike};
 
 use crate::look::inode;
@@ -35,7 +35,7 @@ pub fn load<D: VirtualPages>(device: &mut D, meta: &mut Meta, shape: &Shape) -> 
     ensures formed { D.formed device.new }
     ensures device { OnlyReads D.Counts device.old device.new }
     ensures faults { ReadsCounted D.Counts (result ≡ false) device.old device.new }
-    ensures loads { result ≡ true → Loads D.tells (map_bytes (D.shape device.old) (D.map device.old)) meta.old meta.new }
+    ensures loads { result ≡ true → LoadsMetadata D.tells (map_bytes (D.shape device.old) (D.map device.old)) meta.old meta.new }
     ensures alike { D.tells → result ≡ true
         → LooksAlike shape.now (running_over (map_bytes (D.shape device.old) (D.map device.old)) meta.old) (page_of meta.new) }
 {
@@ -54,7 +54,7 @@ fn load_tables<D: VirtualPages>(device: &mut D, meta: &mut Meta, shape: &Shape) 
     ensures formed { D.formed device.new }
     ensures device { OnlyReads D.Counts device.old device.new }
     ensures faults { ReadsCounted D.Counts (result ≡ false) device.old device.new }
-    ensures loads { result ≡ true → Loads D.tells (map_bytes (D.shape device.old) (D.map device.old)) meta.old meta.new }
+    ensures loads { result ≡ true → LoadsMetadata D.tells (map_bytes (D.shape device.old) (D.map device.old)) meta.old meta.new }
     ensures settled { result ≡ true → (u : ℕ) → IsTableAddress shape.now u
         → Settled D.tells (map_bytes (D.shape device.old) (D.map device.old)) meta.old meta.new u }
 {
@@ -80,7 +80,7 @@ fn load_range<D: VirtualPages>(
     ensures formed { D.formed device.new }
     ensures device { OnlyReads D.Counts device.old device.new }
     ensures faults { ReadsCounted D.Counts (result ≡ false) device.old device.new }
-    ensures loads { result ≡ true → Loads D.tells (map_bytes (D.shape device.old) (D.map device.old)) meta.old meta.new }
+    ensures loads { result ≡ true → LoadsMetadata D.tells (map_bytes (D.shape device.old) (D.map device.old)) meta.old meta.new }
     ensures settled { result ≡ true → (u : ℕ) → from ≤ u → u < to
         → Settled D.tells (map_bytes (D.shape device.old) (D.map device.old)) meta.old meta.new u }
 {
@@ -108,7 +108,7 @@ fn load_nodes<D: VirtualPages>(
     ensures formed { D.formed device.new }
     ensures device { OnlyReads D.Counts device.old device.new }
     ensures faults { ReadsCounted D.Counts (result ≡ false) device.old device.new }
-    ensures loads { result ≡ true → Loads D.tells (map_bytes (D.shape device.old) (D.map device.old)) meta.old meta.new }
+    ensures loads { result ≡ true → LoadsMetadata D.tells (map_bytes (D.shape device.old) (D.map device.old)) meta.old meta.new }
     ensures settled { result ≡ true → (n slot a : ℕ) → from ≤ n → n < to → AddressAt shape.now (page_of meta.old) n slot a
         → IsPoolAddress shape.now a → Settled D.tells (map_bytes (D.shape device.old) (D.map device.old)) meta.old meta.new a }
 {
@@ -129,7 +129,7 @@ fn load_node<D: VirtualPages>(device: &mut D, meta: &mut Meta, shape: &Shape, in
     ensures formed { D.formed device.new }
     ensures device { OnlyReads D.Counts device.old device.new }
     ensures faults { ReadsCounted D.Counts (result ≡ false) device.old device.new }
-    ensures loads { result ≡ true → Loads D.tells (map_bytes (D.shape device.old) (D.map device.old)) meta.old meta.new }
+    ensures loads { result ≡ true → LoadsMetadata D.tells (map_bytes (D.shape device.old) (D.map device.old)) meta.old meta.new }
     ensures settled { result ≡ true → (slot a : ℕ) → AddressAt shape.now (page_of meta.old) ino slot a → IsPoolAddress shape.now a
         → Settled D.tells (map_bytes (D.shape device.old) (D.map device.old)) meta.old meta.new a }
 {
@@ -154,7 +154,7 @@ fn load_addresses<D: VirtualPages>(
     ensures formed { D.formed device.new }
     ensures device { OnlyReads D.Counts device.old device.new }
     ensures faults { ReadsCounted D.Counts (result ≡ false) device.old device.new }
-    ensures loads { result ≡ true → Loads D.tells (map_bytes (D.shape device.old) (D.map device.old)) meta.old meta.new }
+    ensures loads { result ≡ true → LoadsMetadata D.tells (map_bytes (D.shape device.old) (D.map device.old)) meta.old meta.new }
     ensures settled { result ≡ true → (k : ℕ) → from ≤ k → k < length addresses.now → IsPoolAddress shape.now (slice_index addresses.now k)
         → Settled D.tells (map_bytes (D.shape device.old) (D.map device.old)) meta.old meta.new (slice_index addresses.now k) }
 {
@@ -181,7 +181,7 @@ fn load_address<D: VirtualPages>(
     ensures formed { D.formed device.new }
     ensures device { OnlyReads D.Counts device.old device.new }
     ensures faults { ReadsCounted D.Counts (result ≡ false) device.old device.new }
-    ensures loads { result ≡ true → Loads D.tells (map_bytes (D.shape device.old) (D.map device.old)) meta.old meta.new }
+    ensures loads { result ≡ true → LoadsMetadata D.tells (map_bytes (D.shape device.old) (D.map device.old)) meta.old meta.new }
     ensures settled { result ≡ true → IsPoolAddress shape.now address
         → Settled D.tells (map_bytes (D.shape device.old) (D.map device.old)) meta.old meta.new address }
 {
@@ -201,7 +201,7 @@ fn load_page<D: VirtualPages>(device: &mut D, meta: &mut Meta, vaddr: u32, shape
     ensures formed { D.formed device.new }
     ensures device { OnlyReads D.Counts device.old device.new }
     ensures faults { ReadsCounted D.Counts (result ≡ false) device.old device.new }
-    ensures loads { result ≡ true → Loads D.tells (map_bytes (D.shape device.old) (D.map device.old)) meta.old meta.new }
+    ensures loads { result ≡ true → LoadsMetadata D.tells (map_bytes (D.shape device.old) (D.map device.old)) meta.old meta.new }
     ensures settled { result ≡ true → Settled D.tells (map_bytes (D.shape device.old) (D.map device.old)) meta.old meta.new vaddr }
 {
     if meta.resident(vaddr) {

@@ -2,7 +2,7 @@
 ghost use Rattle.std.specs.Prelude.{◌≡◌, IfOk};
 ghost use Rattle.nl_iface.specs.Calls.{OnlyReads, ReadsCounted};
 ghost use Rattle.nl_meta.specs.Pages.{no_pages};
-ghost use Rattle.nl_recover.specs.Reading.{IfRead, IsFailed, IsRead};
+ghost use Rattle.nl_recover.specs.Reading.{IfRead, IsFailed, MetadataIsRead};
 
 use crate::loading::load;
 use nl_field::{Memory, Shape};
@@ -36,7 +36,7 @@ pub fn read_pages<D: VirtualPages>(alloc: Global, device: &mut D, shape: &Shape)
     ensures formed { D.formed device.new }
     ensures device { OnlyReads D.Counts device.old device.new }
     ensures faults { ReadsCounted D.Counts (IsFailed result) device.old device.new }
-    ensures read { IfRead result (IsRead D.Counts device.new) }
+    ensures read { IfRead result (MetadataIsRead D.Counts device.new) }
 {
     match empty_tables(alloc, shape) {
         Ok(tables) => fill(device, tables, shape),
@@ -66,7 +66,7 @@ fn fill<D: VirtualPages>(device: &mut D, tables: Tables, shape: &Shape) -> ReadP
     ensures formed { D.formed device.new }
     ensures device { OnlyReads D.Counts device.old device.new }
     ensures faults { ReadsCounted D.Counts (IsFailed result) device.old device.new }
-    ensures read { IfRead result (IsRead D.Counts device.new) }
+    ensures read { IfRead result (MetadataIsRead D.Counts device.new) }
 {
     let Tables {
         mut journal,

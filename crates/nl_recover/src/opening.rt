@@ -6,7 +6,7 @@ ghost use Rattle.nl_meta.specs.Committed.{committed};
 ghost use Rattle.nl_meta.specs.Nodes.{super_of_pages};
 ghost use Rattle.nl_meta.specs.Pages.{page_of};
 ghost use Rattle.nl_meta.specs.Walk.{walk_over};
-ghost use Rattle.nl_recover.specs.Recovering.{Finds, IfDamaged, IfReady, IsFault, IsFirstFault, IsWalked, Walks, count_in};
+ghost use Rattle.nl_recover.specs.Recovering.{FindsFault, IfDamaged, IfRecovered, IsRecoverFault, IsFirstFault, IsWalked, Walks, count_in};
 ghost use Rattle.nl_meta_running.specs.Running.{stored_on};
 
 use crate::free::free_lists;
@@ -58,10 +58,10 @@ pub fn recover<D: VirtualPages>(
     requires shape { shape.now ≡ D.shape device.old }
     ensures formed { D.formed device.new }
     ensures device { OnlyReads D.Counts device.old device.new }
-    ensures faults { ReadsCounted D.Counts (IsFault result) device.old device.new }
-    ensures walked { IfReady result (IsWalked D.Counts device.new scan.now.seen) }
+    ensures faults { ReadsCounted D.Counts (IsRecoverFault result) device.old device.new }
+    ensures walked { IfRecovered result (IsWalked D.Counts device.new scan.now.seen) }
     ensures damaged { IfDamaged result (IsFirstFault D.Counts device.new shape.now scan.now.seen) }
-    ensures told { D.tells → Finds (walk_over shape.now (committed shape.now (stored_on D.Counts device.old)) scan.now.seen) result }
+    ensures told { D.tells → FindsFault (walk_over shape.now (committed shape.now (stored_on D.Counts device.old)) scan.now.seen) result }
 {
     match read_pages(alloc, device, shape) {
         ReadPages::Done(Metadata { journal, meta }) => {

@@ -6,7 +6,7 @@ ghost use Rattle.nl_meta.specs.Nodes.{held_in};
 ghost use Rattle.nl_meta.specs.Pages.{page_of};
 ghost use Rattle.nl_meta.specs.Walk.{entry_fault, fault_in, first_fault, or_then, reach_fault, walk_over};
 ghost use Rattle.nl_recover.specs.Held.{metadata_phases, pointer_phases};
-ghost use Rattle.nl_recover.specs.Walking.{Answers, place_in};
+ghost use Rattle.nl_recover.specs.Walking.{AnswersWalk, place_in};
 
 use crate::addresses::pages_fault;
 use crate::entries::entry_fault;
@@ -37,7 +37,7 @@ pub fn walk_pages(
     scan: &ScanTables,
 ) -> Result<Outcome, Memory>
     requires { ShapeBounds shape.now }
-    ensures { IfOk result (Answers shape.now (page_of meta.now) (walk_over shape.now (page_of meta.now) scan.now.seen)) }
+    ensures { IfOk result (AnswersWalk shape.now (page_of meta.now) (walk_over shape.now (page_of meta.now) scan.now.seen)) }
 {
     match metadata_fault(alloc, shape, meta, scan)? {
         Some(place) => Ok(Outcome::Damaged(place)),

@@ -7,7 +7,7 @@ use Rattle.std.proofs.lemmas.Bool.{cases_lt, cases_order}
 use Rattle.std.proofs.lemmas.List.Sums.{sum_by-cons}
 use Rattle.std.proofs.lemmas.List.Edits.{length-insert, length-remove, get_or-insert_below, get_or-insert_at, get_or-insert_above, get_or-remove_below, get_or-remove_above}
 use Rattle.nl_remap.specs.declared.links.Link.{Link}
-use Rattle.nl_remap.specs.Links.{no_link, link_at, HasLink, rank, IsRising, IsPlace}
+use Rattle.nl_remap.specs.Links.{no_link, link_at, HasLink, rank, IsRising, IsLinkInsertionPoint}
 
 -- what a search by halving keeps: the place lies from `low` to `high`
 pub record Halving (xs : List Link) (n low high : ℕ) : Type 0 where
@@ -56,7 +56,7 @@ same_rank x y p q e = ⊎_elim
     (cases_order x.from y.from)
 
 -- a link that a rising list has stands at its place
-pub place_has : (xs : List Link) (x : Link) (at : ℕ) → IsRising xs → IsPlace xs (rank x) at → HasLink xs x → (at < length xs) × (link_at xs at ≡ x)
+pub place_has : (xs : List Link) (x : Link) (at : ℕ) → IsRising xs → IsLinkInsertionPoint xs (rank x) at → HasLink xs x → (at < length xs) × (link_at xs at ≡ x)
 place_has xs x at rising place has =
     let i : ℕ = has.0 in
     let within : i < length xs = has.1 in
@@ -70,7 +70,7 @@ place_has xs x at rising place has =
     (cases_order i at)
 
 -- a link that the list lacks ranks below what stands from its place on
-pub place_lacks : (xs : List Link) (x : Link) (at : ℕ) → IsRising xs → x.to < 2 ^ 32 → IsPlace xs (rank x) at → (HasLink xs x → ⊥)
+pub place_lacks : (xs : List Link) (x : Link) (at : ℕ) → IsRising xs → x.to < 2 ^ 32 → IsLinkInsertionPoint xs (rank x) at → (HasLink xs x → ⊥)
     → (i : ℕ) → at ≤ i → i < length xs → rank x < rank (link_at xs i)
 place_lacks xs x at rising fits place lacks i from within = ⊎_elim
     (λ same. absurd (lacks (i, within, same_rank (link_at xs i) x (rising.fits i within) fits (sym same))))
@@ -199,7 +199,7 @@ IsRising-remove xs at bound rising = record {
   fits = EachLink-remove (λ x. x.to < 2 ^ 32) xs at bound rising.fits;
 }
 
-pub IsRising-insert : (xs : List Link) (at : ℕ) (y : Link) → IsRising xs → y.to < 2 ^ 32 → IsPlace xs (rank y) at → (HasLink xs y → ⊥) → IsRising (insert xs at y)
+pub IsRising-insert : (xs : List Link) (at : ℕ) (y : Link) → IsRising xs → y.to < 2 ^ 32 → IsLinkInsertionPoint xs (rank y) at → (HasLink xs y → ⊥) → IsRising (insert xs at y)
 IsRising-insert xs at y rising fits place lacks = record {
   order = Rises-insert rank xs at y place.bound rising.order place.below (place_lacks xs y at rising fits place lacks);
   fits = EachLink-insert (λ x. x.to < 2 ^ 32) xs at y place.bound rising.fits fits;

@@ -7,8 +7,8 @@ use Rattle.std.proofs.lemmas.List.{length-set}
 use Rattle.std.proofs.lemmas.List.Sums.{sum_by-set}
 use Rattle.std.proofs.lemmas.List.Edits.{length-insert, length-remove, get_or-remove_below, get_or-remove_above}
 use Rattle.nl_remap.specs.declared.links.Link.{Link}
-use Rattle.nl_remap.specs.Links.{no_link, link_at, HasLink, rank, IsRising, IsPlace}
-use Rattle.nl_remap.specs.Table.{RemapTable, IsOld, IsRemap, IsPaired, Turns, turned, pair, place_of, led_on}
+use Rattle.nl_remap.specs.Links.{no_link, link_at, HasLink, rank, IsRising, IsLinkInsertionPoint}
+use Rattle.nl_remap.specs.Table.{RemapTable, IsOld, IsRemap, IsPaired, IsInverseOf, turned, pair, place_of, led_on}
 use Rattle.nl_remap.proofs.LinksProofs.{at_is, same_link, place_has, HasLink-insert_kept, HasLink-insert_new, HasLink-insert_back, HasLink-remove_back, HasLink-remove_kept, Rises-remove, Rises-insert, EachLink-remove, EachLink-insert, IsRising-remove, IsRising-insert, once, insert-remove, count_place}
 
 pub rising_table : (xs : List Link) → IsRemap xs → IsRising xs
@@ -18,14 +18,14 @@ rising_table xs is = record {
 }
 
 -- what stands before the place of a name has a lesser old name, and what stands from there on does not
-pub names_below : (xs : List Link) (name at : ℕ) → IsRemap xs → IsPlace xs (name * 2 ^ 32 + 0) at → (i : ℕ) → i < at → (link_at xs i).from < name
+pub names_below : (xs : List Link) (name at : ℕ) → IsRemap xs → IsLinkInsertionPoint xs (name * 2 ^ 32 + 0) at → (i : ℕ) → i < at → (link_at xs i).from < name
 names_below xs name at is place i less = let low = place.below i less in omega arith
 
-pub names_above : (xs : List Link) (name at : ℕ) → IsRemap xs → IsPlace xs (name * 2 ^ 32 + 0) at → (i : ℕ) → at ≤ i → i < length xs → name ≤ (link_at xs i).from
+pub names_above : (xs : List Link) (name at : ℕ) → IsRemap xs → IsLinkInsertionPoint xs (name * 2 ^ 32 + 0) at → (i : ℕ) → at ≤ i → i < length xs → name ≤ (link_at xs i).from
 names_above xs name at is place i from within = let high = place.above i from within in let fits = is.fits i within in omega arith
 
 -- an old name stands at its place
-pub old_place : (xs : List Link) (name at : ℕ) → IsRemap xs → IsPlace xs (name * 2 ^ 32 + 0) at → IsOld xs name → (at < length xs) × ((link_at xs at).from ≡ name)
+pub old_place : (xs : List Link) (name at : ℕ) → IsRemap xs → IsLinkInsertionPoint xs (name * 2 ^ 32 + 0) at → IsOld xs name → (at < length xs) × ((link_at xs at).from ≡ name)
 old_place xs name at is place old =
     let i : ℕ = old.0 in
     let within : i < length xs = old.1 in
@@ -38,18 +38,18 @@ old_place xs name at is place old =
     (cases_order i at)
 
 -- the place of a name is the number of lesser old names
-pub place_counts : (xs : List Link) (name at : ℕ) → IsRemap xs → IsPlace xs (name * 2 ^ 32 + 0) at → place_of xs name ≡ at
+pub place_counts : (xs : List Link) (name at : ℕ) → IsRemap xs → IsLinkInsertionPoint xs (name * 2 ^ 32 + 0) at → place_of xs name ≡ at
 place_counts xs name at is place = count_place (λ p. nat_lt p.from name) xs at place.bound
     (λ i less. lt-ltb _ _ (names_below xs name at is place i less))
     (λ i from within. le-ltb _ _ (names_above xs name at is place i from within))
 
-pub Turns-insert : (xs ys : List Link) (i j : ℕ) (x : Link) → i ≤ length xs → j ≤ length ys → Turns xs ys → Turns (insert xs i x) (insert ys j (turned x))
+pub Turns-insert : (xs ys : List Link) (i j : ℕ) (x : Link) → i ≤ length xs → j ≤ length ys → IsInverseOf xs ys → IsInverseOf (insert xs i x) (insert ys j (turned x))
 Turns-insert xs ys i j x p q turns y has = ⊎_elim
     (λ old. HasLink-insert_kept ys j (turned x) (turned y) q (turns y old))
     (λ new. subst (λ (z : Link). HasLink (insert ys j (turned x)) (turned z)) (sym new) (HasLink-insert_new ys j (turned x) q))
     (HasLink-insert_back xs i x y p has)
 
-pub Turns-remove : (f : Link → ℕ) (xs ys : List Link) (i j : ℕ) → ((a b : ℕ) → a < b → b < length xs → f (link_at xs a) < f (link_at xs b)) → i < length xs → j < length ys → link_at ys j ≡ turned (link_at xs i) → Turns xs ys → Turns (remove xs i) (remove ys j)
+pub Turns-remove : (f : Link → ℕ) (xs ys : List Link) (i j : ℕ) → ((a b : ℕ) → a < b → b < length xs → f (link_at xs a) < f (link_at xs b)) → i < length xs → j < length ys → link_at ys j ≡ turned (link_at xs i) → IsInverseOf xs ys → IsInverseOf (remove xs i) (remove ys j)
 Turns-remove f xs ys i j up p q at turns y has =
     let was = HasLink-remove_back xs i y p has in
     let there = turns y (was.0, was.1, was.3) in
@@ -81,7 +81,7 @@ IsOld-remove_back xs at name bound old =
     (was.0, was.1, ap (λ (l : Link). l.from) was.3 ∙ old.2)
 
 -- a pair put in
-pub IsRemap-insert : (xs : List Link) (at : ℕ) (x : Link) → IsRemap xs → IsPlace xs (x.from * 2 ^ 32 + 0) at → x.to < 2 ^ 32
+pub IsRemap-insert : (xs : List Link) (at : ℕ) (x : Link) → IsRemap xs → IsLinkInsertionPoint xs (x.from * 2 ^ 32 + 0) at → x.to < 2 ^ 32
     → (IsOld xs x.from → ⊥) → (IsOld xs x.to → ⊥) → (x.from ≡ x.to → ⊥) → ((y : Link) → HasLink xs y → y.to ≡ x.from → ⊥) → IsRemap (insert xs at x)
 IsRemap-insert xs at x is place fits fresh free other led = record {
   rising = Rises-insert (λ l. l.from) xs at x place.bound is.rising (names_below xs x.from at is place)
@@ -108,7 +108,7 @@ paired_take xs ys at was is p q e = record {
 }
 
 -- a pair put into both lists
-pub paired_put : (xs ys : List Link) (at now : ℕ) (x : Link) → IsPaired xs ys → IsPlace xs (x.from * 2 ^ 32 + 0) at → IsPlace ys (rank (turned x)) now
+pub paired_put : (xs ys : List Link) (at now : ℕ) (x : Link) → IsPaired xs ys → IsLinkInsertionPoint xs (x.from * 2 ^ 32 + 0) at → IsLinkInsertionPoint ys (rank (turned x)) now
     → x.from < 2 ^ 32 → x.to < 2 ^ 32 → (IsOld xs x.from → ⊥) → (IsOld xs x.to → ⊥) → (x.from ≡ x.to → ⊥) → ((y : Link) → HasLink xs y → y.to ≡ x.from → ⊥)
     → IsPaired (insert xs at x) (insert ys now (turned x))
 paired_put xs ys at now x is place there f g fresh free other led = record {
@@ -120,7 +120,7 @@ paired_put xs ys at now x is place there f g fresh free other led = record {
 }
 
 -- a place stands where a link was taken away, for a link of the same first number
-pub name_place : (xs : List Link) (at : ℕ) → at < length xs → IsRemap xs → IsPlace (remove xs at) ((link_at xs at).from * 2 ^ 32 + 0) at
+pub name_place : (xs : List Link) (at : ℕ) → at < length xs → IsRemap xs → IsLinkInsertionPoint (remove xs at) ((link_at xs at).from * 2 ^ 32 + 0) at
 name_place xs at bound is =
     let size = length-remove xs at bound in
     record {
@@ -138,7 +138,7 @@ name_place xs at bound is =
 
 -- a pair led on in both lists
 pub paired_lead : (xs ys : List Link) (at was now new : ℕ) → IsPaired xs ys → at < length xs → was < length ys → link_at ys was ≡ turned (link_at xs at)
-    → IsPlace (remove ys was) (rank (turned (pair (link_at xs at).from new))) now
+    → IsLinkInsertionPoint (remove ys was) (rank (turned (pair (link_at xs at).from new))) now
     → (link_at xs at).from < 2 ^ 32 → new < 2 ^ 32 → (IsOld xs new → ⊥) → ((link_at xs at).to ≡ new → ⊥)
     → IsPaired (set xs at (pair (link_at xs at).from new)) (insert (remove ys was) now (turned (pair (link_at xs at).from new)))
 paired_lead xs ys at was now new is p q e place f g free other =
@@ -160,22 +160,22 @@ paired_lead xs ys at was now new is p q e place f g free other =
     rw (← insert-remove xs at (pair name new) p) put
 
 -- a pair stands turned round at its place in the list by target
-pub was_is : (xs ys : List Link) (at was : ℕ) (x : Link) → IsPaired xs ys → at < length xs → x ≡ get_or xs at x → IsPlace ys (x.to * 2 ^ 32 + x.from) was → (was < length ys) × (link_at ys was ≡ turned (link_at xs at))
+pub was_is : (xs ys : List Link) (at was : ℕ) (x : Link) → IsPaired xs ys → at < length xs → x ≡ get_or xs at x → IsLinkInsertionPoint ys (x.to * 2 ^ 32 + x.from) was → (was < length ys) × (link_at ys was ≡ turned (link_at xs at))
 was_is xs ys at was x is p e place =
     let here : link_at xs at ≡ x = at_is xs at x p e in
     let found = place_has ys (turned x) was is.rising place (is.there x (at, p, here)) in
     (found.0, found.1 ∙ ap turned (sym here))
 
 -- what `take_pair` leaves
-pub taken_paired : (xs ys vs ws : List Link) (at was : ℕ) (x : Link) → IsPaired xs ys → at < length xs → x ≡ get_or xs at x → IsPlace ys (x.to * 2 ^ 32 + x.from) was
+pub taken_paired : (xs ys vs ws : List Link) (at was : ℕ) (x : Link) → IsPaired xs ys → at < length xs → x ≡ get_or xs at x → IsLinkInsertionPoint ys (x.to * 2 ^ 32 + x.from) was
     → vs ≡ remove xs at → ws ≡ remove ys was → IsPaired vs ws
 taken_paired xs ys vs ws at was x is p e place v w =
     let found = was_is xs ys at was x is p e place in
     rw (v, w) (paired_take xs ys at was is p found.0 found.1)
 
 -- what `lead_pair` leaves
-pub led_paired : (xs ys zs ws : List Link) (at was now new : ℕ) (x : Link) → IsPaired xs ys → at < length xs → x ≡ get_or xs at x → IsPlace ys (x.to * 2 ^ 32 + x.from) was
-    → zs ≡ remove ys was → IsPlace zs (new * 2 ^ 32 + x.from) now → ws ≡ insert zs now (pair new x.from) → new < 2 ^ 32 → (IsOld xs new → ⊥) → ((link_at xs at).to ≡ new → ⊥)
+pub led_paired : (xs ys zs ws : List Link) (at was now new : ℕ) (x : Link) → IsPaired xs ys → at < length xs → x ≡ get_or xs at x → IsLinkInsertionPoint ys (x.to * 2 ^ 32 + x.from) was
+    → zs ≡ remove ys was → IsLinkInsertionPoint zs (new * 2 ^ 32 + x.from) now → ws ≡ insert zs now (pair new x.from) → new < 2 ^ 32 → (IsOld xs new → ⊥) → ((link_at xs at).to ≡ new → ⊥)
     → IsPaired (set xs at (pair x.from new)) ws
 led_paired xs ys zs ws at was now new x is p e place z there w g free other =
     let here : link_at xs at ≡ x = at_is xs at x p e in
@@ -183,13 +183,13 @@ led_paired xs ys zs ws at was now new x is p e place z there w g free other =
     let found = was_is xs ys at was x is p e place in
     let has = is.there (link_at xs at) (at, p, refl) in
     let small : (link_at xs at).from < 2 ^ 32 = subst (λ (l : Link). l.to < 2 ^ 32) has.2 (is.rising.fits has.0 has.1) in
-    let there' : IsPlace (remove ys was) (rank (turned (pair (link_at xs at).from new))) now = rw name (rw z at there) in
+    let there' : IsLinkInsertionPoint (remove ys was) (rank (turned (pair (link_at xs at).from new))) now = rw name (rw z at there) in
     let led = paired_lead xs ys at was now new is p found.0 found.1 there' small g free other in
     rw (w, z, ← name) led
 
 -- what `put_pair` leaves
-pub added_paired : (xs ys vs ws : List Link) (at now old new : ℕ) → IsPaired xs ys → IsPlace ys (new * 2 ^ 32 + old) now → ws ≡ insert ys now (pair new old)
-    → IsPlace xs (old * 2 ^ 32 + 0) at → vs ≡ insert xs at (pair old new) → old < 2 ^ 32 → new < 2 ^ 32 → (IsOld xs old → ⊥) → (IsOld xs new → ⊥) → (old ≡ new → ⊥)
+pub added_paired : (xs ys vs ws : List Link) (at now old new : ℕ) → IsPaired xs ys → IsLinkInsertionPoint ys (new * 2 ^ 32 + old) now → ws ≡ insert ys now (pair new old)
+    → IsLinkInsertionPoint xs (old * 2 ^ 32 + 0) at → vs ≡ insert xs at (pair old new) → old < 2 ^ 32 → new < 2 ^ 32 → (IsOld xs old → ⊥) → (IsOld xs new → ⊥) → (old ≡ new → ⊥)
     → ((name : ℕ) → HasLink xs (pair name old) → ⊥) → IsPaired vs ws
 added_paired xs ys vs ws at now old new is there w place v f g fresh free other led =
     rw (v, w) (paired_put xs ys at now (pair old new) is place there f g fresh free other
@@ -236,7 +236,7 @@ IsOld-set_back xs at name old new other bound is has =
     (IsOld-insert_back (remove xs at) at (pair name new) other (omega arith) has')
 
 -- a target of a pair stands, turned round, at the place of the target
-pub target_place : (xs ys : List Link) (at target name : ℕ) → IsPaired xs ys → IsPlace ys (target * 2 ^ 32 + 0) at → HasLink xs (pair name target)
+pub target_place : (xs ys : List Link) (at target name : ℕ) → IsPaired xs ys → IsLinkInsertionPoint ys (target * 2 ^ 32 + 0) at → HasLink xs (pair name target)
     → (at < length ys) × ((link_at ys at).from ≡ target) × ((link_at ys at).to ≤ name)
 target_place xs ys at target name is place has =
     let there = is.there (pair name target) has in
@@ -262,7 +262,7 @@ pub target_has : (xs ys : List Link) (at target : ℕ) (x : Link) → IsPaired x
 target_has xs ys at target x is bound e named = subst (λ n. HasLink xs (pair x.to n)) named (is.back x (at, bound, at_is ys at x bound e))
 
 -- the place of a pair in the list by old name
-pub pair_place : (xs : List Link) (at name target : ℕ) → IsRemap xs → IsPlace xs (name * 2 ^ 32 + 0) at → HasLink xs (pair name target) → (at < length xs) × (link_at xs at ≡ pair name target)
+pub pair_place : (xs : List Link) (at name target : ℕ) → IsRemap xs → IsLinkInsertionPoint xs (name * 2 ^ 32 + 0) at → HasLink xs (pair name target) → (at < length xs) × (link_at xs at ≡ pair name target)
 pair_place xs at name target is place has =
     let i : ℕ = has.0 in
     let named : (link_at xs i).from ≡ name = ap (λ (l : Link). l.from) has.2 in

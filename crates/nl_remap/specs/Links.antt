@@ -22,7 +22,7 @@ pub record IsRising (xs : List Link) : Type 0 where
   pub fits : (i : ℕ) → i < length xs → (link_at xs i).to < 2 ^ 32
 
 -- the place of a rank: what is before it ranks below it, and nothing from there on does
-pub record IsPlace (xs : List Link) (n at : ℕ) : Type 0 where
+pub record IsLinkInsertionPoint (xs : List Link) (n at : ℕ) : Type 0 where
   pub bound : at ≤ length xs
   pub below : (i : ℕ) → i < at → rank (link_at xs i) < n
   pub above : (i : ℕ) → at ≤ i → i < length xs → n ≤ rank (link_at xs i)

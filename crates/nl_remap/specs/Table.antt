@@ -46,13 +46,13 @@ abbrev pub turned : Link → Link
 turned x = record { from = x.to; to = x.from }
 
 -- the second list has each link of the first, turned round
-abbrev pub Turns : List Link → List Link → Type 0
-Turns xs ys = (x : Link) → HasLink xs x → HasLink ys (turned x)
+abbrev pub IsInverseOf : List Link → List Link → Type 0
+IsInverseOf xs ys = (x : Link) → HasLink xs x → HasLink ys (turned x)
 
 -- the pairs by old name, and the same turned round, by target
 pub record IsPaired (by_old by_target : List Link) : Type 0 where
   pub table : IsRemap by_old
   pub rising : IsRising by_target
-  pub there : Turns by_old by_target
-  pub back : Turns by_target by_old
+  pub there : IsInverseOf by_old by_target
+  pub back : IsInverseOf by_target by_old
   pub size : length by_target ≡ length by_old

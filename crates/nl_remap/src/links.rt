@@ -1,6 +1,6 @@
 // Lists of links in rising order.
 ghost use Rattle.std.specs.Prelude.{◌≡◌, ℕ, ◌+◌, ◌*◌, ◌^◌, ◌<◌, ◌≤◌, length, insert, nat_lt, vec_capacity};
-ghost use Rattle.nl_remap.specs.Links.{IsPlace, IsRising, rank};
+ghost use Rattle.nl_remap.specs.Links.{IsLinkInsertionPoint, IsRising, rank};
 
 /// A link from one number to another.
 #[derive(Clone, Copy, Debug, PartialEq, Eq)]
@@ -22,7 +22,7 @@ fn is_before(link: Link, from: u32, to: u32) -> bool
 /// The place of the link in a rising list, by halving.
 pub fn place(links: &Vec<Link>, from: u32, to: u32) -> usize
     requires { IsRising links.now.items }
-    ensures { IsPlace links.now.items (from * 2 ^ 32 + to) result }
+    ensures { IsLinkInsertionPoint links.now.items (from * 2 ^ 32 + to) result }
 {
     let mut low = 0;
     let mut high = links.len();

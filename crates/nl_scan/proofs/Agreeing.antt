@@ -13,7 +13,7 @@ use Rattle.nl_field.specs.Medium.{Readable, readable, stamp_on}
 use Rattle.nl_field.specs.Scan.{agree, without_wear}
 use Rattle.nl_scan.specs.declared.firsts.First.{First}
 use Rattle.nl_scan.proofs.Lists.{all_each, any_same, or_false, same_some}
-use Rattle.nl_scan.specs.Firsts.{agrees_with, is_alike, same_record, noted, first_of}
+use Rattle.nl_scan.specs.Firsts.{agrees_with, is_alike, same_record, noted, first_seen}
 
 -- one of these pages has the stamp and differs
 abbrev pub differs_from : List Readable → Readable → Bool
@@ -130,8 +130,8 @@ noted_first image pages r (Some f) on some =
     ap (λ (b : Bool). differ_from_first pages (stamp_on r) f || not b) (alike_first image f r (holds_found (has_stamp (stamp_on r)) (IsOn image) pages f some on))
     ∙ sym (differs_by_first pages r f some)
 
-pub verdict : (image : Image) (pages : List Readable) (r : Readable) → AllByRecursion (IsOn image) pages → (noted image r (first_of pages (stamp_on r))).mixed ≡ differs_from pages r
-unfolding first_of
+pub verdict : (image : Image) (pages : List Readable) (r : Readable) → AllByRecursion (IsOn image) pages → (noted image r (first_seen pages (stamp_on r))).mixed ≡ differs_from pages r
+unfolding first_seen
 verdict image pages r on = noted_first image pages r (find (has_stamp (stamp_on r)) pages) on refl
 
 -- what is noted is the first page of the stamp among these and one more
@@ -158,8 +158,8 @@ here image pages r (Some f) on some =
     ∙ ap (λ (b : Bool). differ_from_first pages (stamp_on r) f || not b) (sym (alike_first image f r (holds_found (has_stamp (stamp_on r)) (IsOn image) pages f some on))))
 
 pub first_here : (image : Image) (pages : List Readable) (r : Readable) → AllByRecursion (IsOn image) pages
-    → first_of (pages ++ r ∷ []) (stamp_on r) ≡ Some (noted image r (first_of pages (stamp_on r)))
-unfolding first_of
+    → first_seen (pages ++ r ∷ []) (stamp_on r) ≡ Some (noted image r (first_seen pages (stamp_on r)))
+unfolding first_seen
 first_here image pages r on =
     ap (option_map (first_in (pages ++ r ∷ []) (stamp_on r))) (find-append (has_stamp (stamp_on r)) pages (r ∷ []))
     ∙ here image pages r (find (has_stamp (stamp_on r)) pages) on refl
@@ -171,8 +171,8 @@ apart_in pages r stamp (Some f) no' =
     ap (λ (m : Bool). Some (record { page = f.page; rec = f.rec; mixed = m }))
     (one_more pages r f stamp ∙ (λ i. differ_from_first pages stamp f || (no' i && not (agree f r))) ∙ or_false (differ_from_first pages stamp f))
 
-pub first_apart : (pages : List Readable) (r : Readable) (stamp : ℕ) → (stamp_on r ≡ stamp → ⊥) → first_of (pages ++ r ∷ []) stamp ≡ first_of pages stamp
-unfolding first_of
+pub first_apart : (pages : List Readable) (r : Readable) (stamp : ℕ) → (stamp_on r ≡ stamp → ⊥) → first_seen (pages ++ r ∷ []) stamp ≡ first_seen pages stamp
+unfolding first_seen
 first_apart pages r stamp apart =
     ap (option_map (first_in (pages ++ r ∷ []) stamp)) (find-append (has_stamp stamp) pages (r ∷ []))
     ∙ apart_in pages r stamp (find (has_stamp stamp) pages) (ne_eqb (stamp_on r) stamp apart)

@@ -19,16 +19,16 @@ use Rattle.nl_scan.specs.declared.firsts.First.{First}
 use Rattle.nl_scan.specs.declared.pass.Pass.{Pass}
 use Rattle.nl_field.specs.declared.seen.Seen.{Seen}
 use Rattle.nl_scan.specs.Supers.{no_super, super_after}
-use Rattle.nl_scan.specs.Tables.{IsSeen, IsKept, IsTableOf, FitsMedium, greatest_stamp}
+use Rattle.nl_scan.specs.Tables.{IsSeen, IsSeenTable, IsTableOf, FitsMedium, greatest_stamp}
 use Rattle.nl_field.specs.ScanList.{seen_of, virtual_seen, physical_seen}
 use Rattle.nl_field.proofs.ScanLists.{each as listed}
-use Rattle.nl_scan.specs.Passes.{AreFirsts, AreNoted, IsFirst, IsFresh, KnowsBlocks, Stands}
+use Rattle.nl_scan.specs.Passes.{AreFirsts, FirstsAreNoted, IsFirst, IsFreshPass, KnowsBlocks, IsPassBelow}
 use Rattle.nl_scan.proofs.Noting.{no_virtuals, no_physicals, none_virtual, none_physical, one_record}
 use Rattle.nl_scan.proofs.Readables.{below_all, below_none}
 use Rattle.nl_scan.proofs.Supers.{version_found}
 use Rattle.nl_scan.proofs.Whole.{pages_spelled, greatest_is}
 
-pub fresh_blocks : (image : Image) (blocks : ℕ) (pass : Pass) → image.blocks ≡ blocks → IsFresh blocks pass → KnowsBlocks image 0 pass.erased.items
+pub fresh_blocks : (image : Image) (blocks : ℕ) (pass : Pass) → image.blocks ≡ blocks → IsFreshPass blocks pass → KnowsBlocks image 0 pass.erased.items
 fresh_blocks image blocks pass same fresh =
     record {
       each_block = λ block below. (
@@ -47,7 +47,7 @@ none_greatest = refl
 no_pairs : {X : Type 0} (R : X → X → Type 0) → AllPairs R []
 no_pairs R i j d before below = absurd (omega arith)
 
-pub fresh_stands : (geometry : Geometry) (shape : Shape) (pass : Pass) → IsFresh geometry.blocks pass → Stands geometry shape 0 pass
+pub fresh_stands : (geometry : Geometry) (shape : Shape) (pass : Pass) → IsFreshPass geometry.blocks pass → IsPassBelow geometry shape 0 pass
 fresh_stands geometry shape pass fresh =
     record {
       rising = subst (AllPairs (λ a b. a.page < b.page)) (sym fresh.no_pages) (no_pairs (λ a b. a.page < b.page));
@@ -57,8 +57,8 @@ fresh_stands geometry shape pass fresh =
       small = omega (arith, fresh.no_greatest);
       virtuals = no_firsts (geometry.blocks * geometry.pages) pass.virtuals fresh.no_virtuals;
       physicals = no_firsts (geometry.blocks * geometry.pages) pass.physicals fresh.no_physicals;
-      noted_virtuals = subst (λ (l : List Seen). AreNoted pass.virtuals (virtual_seen shape l)) (sym fresh.no_pages) (no_virtuals shape pass.virtuals);
-      noted_physicals = subst (λ (l : List Seen). AreNoted pass.physicals (physical_seen shape l)) (sym fresh.no_pages) (no_physicals shape pass.physicals);
+      noted_virtuals = subst (λ (l : List Seen). FirstsAreNoted pass.virtuals (virtual_seen shape l)) (sym fresh.no_pages) (no_virtuals shape pass.virtuals);
+      noted_physicals = subst (λ (l : List Seen). FirstsAreNoted pass.physicals (physical_seen shape l)) (sym fresh.no_pages) (no_physicals shape pass.physicals);
       blocks = ap (λ (l : List Bool). length l) fresh.all_erased ∙ length-replicate geometry.blocks true;
     }
 
@@ -72,7 +72,7 @@ size_of geometry image fits = image_size image fits.whole ∙ (λ i. fits.blocks
 pub shape_fits : (geometry : Geometry) (image : Image) → ImageOf geometry image → shape_for geometry.blocks geometry.pages ≡ shape_of_image image
 shape_fits geometry image fits = λ i. shape_for (sym fits.blocks i) (sym fits.pages i)
 
-pub fits_medium : (geometry : Geometry) (pass : Pass) → Stands geometry (shape_for geometry.blocks geometry.pages) (geometry.blocks * geometry.pages) pass
+pub fits_medium : (geometry : Geometry) (pass : Pass) → IsPassBelow geometry (shape_for geometry.blocks geometry.pages) (geometry.blocks * geometry.pages) pass
     → FitsMedium geometry (record { seen = pass.seen.items; erased = pass.erased.items; version = pass.newest.version })
 fits_medium geometry pass stands =
     record {
@@ -86,10 +86,10 @@ fits_medium geometry pass stands =
 few_pages : (blocks pages : ℕ) → IsTrue (is_legal blocks pages) → blocks * pages ≤ 262144
 few_pages blocks pages legal = leb-true (blocks * pages) 262144 (and_parts (nat_le 32 blocks && nat_le blocks 4096 && nat_le 32 pages && nat_le pages 256) (nat_le (blocks * pages) 262144) legal).1
 
-pub is_kept : (geometry : Geometry) (shape : Shape) (pass : Pass) → IsTrue (is_legal geometry.blocks geometry.pages) → Stands geometry shape (geometry.blocks * geometry.pages) pass → IsKept pass.seen.items pass.greatest
+pub is_kept : (geometry : Geometry) (shape : Shape) (pass : Pass) → IsTrue (is_legal geometry.blocks geometry.pages) → IsPassBelow geometry shape (geometry.blocks * geometry.pages) pass → IsSeenTable pass.seen.items pass.greatest
 is_kept geometry shape pass legal stands = record { few = omega (arith, few_pages geometry.blocks geometry.pages legal, stands.few); is_greatest = stands.is_greatest; small = stands.small }
 
-pub none_kept : IsKept [] 0
+pub none_kept : IsSeenTable [] 0
 none_kept = record { few = omega arith; is_greatest = sym none_greatest; small = omega arith }
 
 -- a medium that was never formed

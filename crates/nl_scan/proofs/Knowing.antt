@@ -16,7 +16,7 @@ use Rattle.nl_field.specs.Scan.{agrees_below, zeros_from}
 use Rattle.nl_scan.specs.declared.firsts.First.{First}
 use Rattle.nl_scan.specs.declared.pass.Pass.{Pass}
 use Rattle.nl_scan.specs.declared.super_seen.SuperSeen.{SuperSeen}
-use Rattle.nl_scan.specs.Firsts.{noted, first_of}
+use Rattle.nl_scan.specs.Firsts.{noted, first_seen}
 use Rattle.nl_scan.specs.Supers.{no_super, super_after}
 use Rattle.nl_field.specs.ScanList.{seen_of}
 use Rattle.nl_scan.specs.Passes.{is_own_virtual, is_own_physical, readable_below, Added, KnowsPages}
@@ -27,7 +27,7 @@ use Rattle.nl_scan.proofs.Readables.{IsOneOf, below_none, below_more_none, below
 
 -- the table of a segment has the first pages of these
 abbrev pub Holds : BTreeMap ℕ First → List Readable → Type 0
-Holds firsts pages = (stamp : ℕ) → get nat_cmp firsts stamp ≡ first_of pages stamp
+Holds firsts pages = (stamp : ℕ) → get nat_cmp firsts stamp ≡ first_seen pages stamp
 
 -- another stamp is another key
 pub other_stamp : (k stamp : ℕ) → (k ≡ stamp → ⊥) → is_eq (nat_cmp k stamp) ≡ false
@@ -39,7 +39,7 @@ noted_more image pages r old new on holds updates stamp =
     ⊎_elim
     (λ same.
     ap (get nat_cmp new) (sym same) ∙ updates.1 ∙ ap (λ o. Some (noted image r o)) (holds (stamp_on r))
-    ∙ sym (first_here image pages r on) ∙ ap (first_of (pages ++ r ∷ [])) same)
+    ∙ sym (first_here image pages r on) ∙ ap (first_seen (pages ++ r ∷ [])) same)
     (λ apart. updates.2 stamp (other_stamp (stamp_on r) stamp apart) ∙ holds stamp ∙ sym (first_apart pages r stamp apart))
     (cases_eq (stamp_on r) stamp)
 
@@ -89,9 +89,9 @@ knows_more image at r old new below is knows added =
           ∙ sym (map-append (seen_of image) (readable_below image at) (r ∷ []))
           ∙ ap (map (seen_of image)) (sym more);
       virtuals = λ stamp. segment_more image (is_own_virtual (shape_of_image image)) (readable_below image at) r old.virtuals new.virtuals on knows.virtuals added.compared.in_virtual stamp
-          ∙ ap (λ (l : List Readable). first_of (filter (is_own_virtual (shape_of_image image)) l) stamp) (sym more);
+          ∙ ap (λ (l : List Readable). first_seen (filter (is_own_virtual (shape_of_image image)) l) stamp) (sym more);
       physicals = λ stamp. segment_more image (is_own_physical (shape_of_image image)) (readable_below image at) r old.physicals new.physicals on knows.physicals added.compared.in_physical stamp
-          ∙ ap (λ (l : List Readable). first_of (filter (is_own_physical (shape_of_image image)) l) stamp) (sym more);
+          ∙ ap (λ (l : List Readable). first_seen (filter (is_own_physical (shape_of_image image)) l) stamp) (sym more);
       newest = added.newest ∙ ap (λ (n : SuperSeen). super_after n r) knows.newest ∙ sym (fold-append super_after no_super (readable_below image at) (r ∷ [])) ∙ ap (fold super_after no_super) (sym more);
     }
 
@@ -100,18 +100,18 @@ knows_same image at pass below is knows =
     let more = below_more_none image at below is in
     record {
       each_page = knows.each_page ∙ ap (map (seen_of image)) (sym more);
-      virtuals = λ stamp. knows.virtuals stamp ∙ ap (λ (l : List Readable). first_of (filter (is_own_virtual (shape_of_image image)) l) stamp) (sym more);
-      physicals = λ stamp. knows.physicals stamp ∙ ap (λ (l : List Readable). first_of (filter (is_own_physical (shape_of_image image)) l) stamp) (sym more);
+      virtuals = λ stamp. knows.virtuals stamp ∙ ap (λ (l : List Readable). first_seen (filter (is_own_virtual (shape_of_image image)) l) stamp) (sym more);
+      physicals = λ stamp. knows.physicals stamp ∙ ap (λ (l : List Readable). first_seen (filter (is_own_physical (shape_of_image image)) l) stamp) (sym more);
       newest = knows.newest ∙ ap (fold super_after no_super) (sym more);
     }
 
 -- before the first page
 pub knows_nothing : (image : Image) (pass : Pass) → pass.seen.items ≡ [] → pass.virtuals.entries ≡ [] → pass.physicals.entries ≡ [] → pass.newest ≡ no_super → KnowsPages image 0 pass
-unfolding first_of
+unfolding first_seen
 knows_nothing image pass seen virtuals physicals newest =
     record {
       each_page = seen ∙ ap (map (seen_of image)) (sym (below_none image));
-      virtuals = λ stamp. ap (lookup (λ k. is_eq (nat_cmp stamp k))) virtuals ∙ ap (λ (l : List Readable). first_of (filter (is_own_virtual (shape_of_image image)) l) stamp) (sym (below_none image));
-      physicals = λ stamp. ap (lookup (λ k. is_eq (nat_cmp stamp k))) physicals ∙ ap (λ (l : List Readable). first_of (filter (is_own_physical (shape_of_image image)) l) stamp) (sym (below_none image));
+      virtuals = λ stamp. ap (lookup (λ k. is_eq (nat_cmp stamp k))) virtuals ∙ ap (λ (l : List Readable). first_seen (filter (is_own_virtual (shape_of_image image)) l) stamp) (sym (below_none image));
+      physicals = λ stamp. ap (lookup (λ k. is_eq (nat_cmp stamp k))) physicals ∙ ap (λ (l : List Readable). first_seen (filter (is_own_physical (shape_of_image image)) l) stamp) (sym (below_none image));
       newest = newest ∙ ap (fold super_after no_super) (sym (below_none image));
     }

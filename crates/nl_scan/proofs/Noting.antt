@@ -15,7 +15,7 @@ use Rattle.nl_field.specs.declared.seen.Seen.{Seen}
 use Rattle.nl_field.specs.declared.shape.Shape.{Shape}
 use Rattle.nl_field.specs.declared.spare.SpareRec.{SpareRec}
 use Rattle.nl_scan.specs.declared.firsts.First.{First}
-use Rattle.nl_scan.specs.Passes.{AreNoted, Notes, record_for, is_own_virtual, is_own_physical}
+use Rattle.nl_scan.specs.Passes.{FirstsAreNoted, Notes, record_for, is_own_virtual, is_own_physical}
 use Rattle.nl_scan.specs.Tables.{HaveOneRecord}
 use Rattle.nl_scan.proofs.Agreeing.{some_or_none}
 use Rattle.nl_scan.proofs.Knowing.{other_stamp}
@@ -25,35 +25,35 @@ abbrev HasRecord : BTreeMap ℕ First → Seen → Type 0
 HasRecord firsts s = s.agrees ≡ true → record_for firsts (stamp_of s.rec) ≡ Some (without_wear s.rec)
 
 -- a page more, noted in its segment
-noted_more : (own : Seen → Bool) (pages : List Seen) (s : Seen) (old new : BTreeMap ℕ First) → AreNoted old (filter own pages) → MatchBool (own s) (Notes s.rec s.agrees old new) (new ≡ old)
-    → AreNoted new (filter own (pages ++ s ∷ []))
+noted_more : (own : Seen → Bool) (pages : List Seen) (s : Seen) (old new : BTreeMap ℕ First) → FirstsAreNoted old (filter own pages) → MatchBool (own s) (Notes s.rec s.agrees old new) (new ≡ old)
+    → FirstsAreNoted new (filter own (pages ++ s ∷ []))
 noted_more own pages s old new noted matched =
     ⊎_elim
     (λ is.
     let note : Notes s.rec s.agrees old new = MatchBool-at_true _ _ is matched in
-    subst (AreNoted new) (sym (filter-append own pages (s ∷ []) ∙ (λ i. filter own pages ++ cond (is i) (s ∷ []) [])))
+    subst (FirstsAreNoted new) (sym (filter-append own pages (s ∷ []) ∙ (λ i. filter own pages ++ cond (is i) (s ∷ []) [])))
     (All-push (HasRecord new) (filter own pages) s
     (All-weaker (HasRecord old) (HasRecord new) (λ x was agrees. note.stays (stamp_of x.rec) (without_wear x.rec) (was agrees)) (filter own pages) noted) note.same))
     (λ is.
-    subst (AreNoted new) (sym (filter-append own pages (s ∷ []) ∙ (λ i. filter own pages ++ cond (is i) (s ∷ []) []) ∙ append-nil (filter own pages)))
-    (subst (λ firsts. AreNoted firsts (filter own pages)) (sym (MatchBool-at_false _ _ is matched)) noted))
+    subst (FirstsAreNoted new) (sym (filter-append own pages (s ∷ []) ∙ (λ i. filter own pages ++ cond (is i) (s ∷ []) []) ∙ append-nil (filter own pages)))
+    (subst (λ firsts. FirstsAreNoted firsts (filter own pages)) (sym (MatchBool-at_false _ _ is matched)) noted))
     (cases_Bool (own s))
 
-pub virtuals_more : (shape : Shape) (pages : List Seen) (s : Seen) (main : List ℕ) (old new : BTreeMap ℕ First) → AreNoted old (virtual_seen shape pages)
-    → MatchBool (is_own_virtual shape (record { page = s.page; rec = s.rec; main = main })) (Notes s.rec s.agrees old new) (new ≡ old) → AreNoted new (virtual_seen shape (pages ++ s ∷ []))
+pub virtuals_more : (shape : Shape) (pages : List Seen) (s : Seen) (main : List ℕ) (old new : BTreeMap ℕ First) → FirstsAreNoted old (virtual_seen shape pages)
+    → MatchBool (is_own_virtual shape (record { page = s.page; rec = s.rec; main = main })) (Notes s.rec s.agrees old new) (new ≡ old) → FirstsAreNoted new (virtual_seen shape (pages ++ s ∷ []))
 unfolding virtual_seen
 virtuals_more shape pages s main old new noted matched = noted_more (λ q. nat_lt q.page (first_physical shape) && is_virtual_rec shape q.rec) pages s old new noted matched
 
-pub physicals_more : (shape : Shape) (pages : List Seen) (s : Seen) (main : List ℕ) (old new : BTreeMap ℕ First) → AreNoted old (physical_seen shape pages)
-    → MatchBool (is_own_physical shape (record { page = s.page; rec = s.rec; main = main })) (Notes s.rec s.agrees old new) (new ≡ old) → AreNoted new (physical_seen shape (pages ++ s ∷ []))
+pub physicals_more : (shape : Shape) (pages : List Seen) (s : Seen) (main : List ℕ) (old new : BTreeMap ℕ First) → FirstsAreNoted old (physical_seen shape pages)
+    → MatchBool (is_own_physical shape (record { page = s.page; rec = s.rec; main = main })) (Notes s.rec s.agrees old new) (new ≡ old) → FirstsAreNoted new (physical_seen shape (pages ++ s ∷ []))
 unfolding physical_seen
 physicals_more shape pages s main old new noted matched = noted_more (λ q. nat_le (first_physical shape) q.page && is_physical_rec q.rec) pages s old new noted matched
 
-pub no_virtuals : (shape : Shape) (firsts : BTreeMap ℕ First) → AreNoted firsts (virtual_seen shape [])
+pub no_virtuals : (shape : Shape) (firsts : BTreeMap ℕ First) → FirstsAreNoted firsts (virtual_seen shape [])
 unfolding virtual_seen
 no_virtuals shape firsts = All-nil (HasRecord firsts)
 
-pub no_physicals : (shape : Shape) (firsts : BTreeMap ℕ First) → AreNoted firsts (physical_seen shape [])
+pub no_physicals : (shape : Shape) (firsts : BTreeMap ℕ First) → FirstsAreNoted firsts (physical_seen shape [])
 unfolding physical_seen
 no_physicals shape firsts = All-nil (HasRecord firsts)
 
@@ -94,7 +94,7 @@ all_has P [] x all has = absurd has
 all_has P (y ∷ xs) x all (inl is) = subst P is (All-head P y xs all)
 all_has P (y ∷ xs) x all (inr has) = all_has P xs x (All-tail P y xs all) has
 
-pub one_record : (firsts : BTreeMap ℕ First) (pages : List Seen) → AreNoted firsts pages → HaveOneRecord pages
+pub one_record : (firsts : BTreeMap ℕ First) (pages : List Seen) → FirstsAreNoted firsts pages → HaveOneRecord pages
 one_record firsts pages noted s q is_in is_in' agrees agrees' same =
     same_some (without_wear s.rec) (without_wear q.rec)
     (sym (all_has (HasRecord firsts) pages s noted is_in agrees) ∙ ap (record_for firsts) same ∙ all_has (HasRecord firsts) pages q noted is_in' agrees')

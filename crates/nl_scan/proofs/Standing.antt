@@ -20,7 +20,7 @@ use Rattle.nl_nand.specs.declared.geometry.Geometry.{Geometry}
 use Rattle.nl_scan.specs.declared.pass.Pass.{Pass}
 use Rattle.nl_field.specs.declared.seen.Seen.{Seen}
 use Rattle.nl_scan.specs.Tables.{IsSeen, greatest_stamp}
-use Rattle.nl_scan.specs.Passes.{AreFirsts, AreNoted, NotedIn, Added, KnowsPages, KnowsBlocks, ErasedBelow, Stands}
+use Rattle.nl_scan.specs.Passes.{AreFirsts, FirstsAreNoted, NotedIn, Added, KnowsPages, KnowsBlocks, ErasedBelow, IsPassBelow}
 use Rattle.nl_scan.proofs.Knowing.{knows_more, knows_same}
 use Rattle.nl_scan.proofs.Noting.{virtuals_more, physicals_more}
 
@@ -31,11 +31,11 @@ greatest_more : (seen : List Seen) (s : Seen) → greatest_stamp (seen ++ s ∷ 
 unfolding greatest_stamp
 greatest_more seen s = fold-append (λ best s. max best (stamp_of s.rec)) 0 seen (s ∷ [])
 
-pub stands_more : (geometry : Geometry) (shape : Shape) (at : ℕ) (old new : Pass) (s : Seen) (main : List ℕ) → Stands geometry shape at old → s.page ≡ at → IsTrue (is_spare s.rec) → s.zeros ≤ 4096
+pub stands_more : (geometry : Geometry) (shape : Shape) (at : ℕ) (old new : Pass) (s : Seen) (main : List ℕ) → IsPassBelow geometry shape at old → s.page ≡ at → IsTrue (is_spare s.rec) → s.zeros ≤ 4096
     → new.seen.items ≡ old.seen.items ++ s ∷ [] → new.greatest ≡ max old.greatest (stamp_of s.rec)
     → AreFirsts (geometry.blocks * geometry.pages) new.virtuals → AreFirsts (geometry.blocks * geometry.pages) new.physicals
     → NotedIn shape (record { page = s.page; rec = s.rec; main = main }) s.agrees old.virtuals new.virtuals old.physicals new.physicals
-    → length new.erased.items ≡ length old.erased.items → Stands geometry shape (at + 1) new
+    → length new.erased.items ≡ length old.erased.items → IsPassBelow geometry shape (at + 1) new
 stands_more geometry shape at old new s main stands number spelled short seen greatest virtuals physicals noted blocks =
     record {
       rising = subst (AllPairs (λ a b. a.page < b.page)) (sym seen)
@@ -48,8 +48,8 @@ stands_more geometry shape at old new s main stands number spelled short seen gr
       small = omega (arith, greatest, stands.small, small_stamp (stamp_of s.rec) spelled);
       virtuals = virtuals;
       physicals = physicals;
-      noted_virtuals = subst (λ (l : List Seen). AreNoted new.virtuals (virtual_seen shape l)) (sym seen) (virtuals_more shape old.seen.items s main old.virtuals new.virtuals stands.noted_virtuals noted.in_virtual);
-      noted_physicals = subst (λ (l : List Seen). AreNoted new.physicals (physical_seen shape l)) (sym seen) (physicals_more shape old.seen.items s main old.physicals new.physicals stands.noted_physicals noted.in_physical);
+      noted_virtuals = subst (λ (l : List Seen). FirstsAreNoted new.virtuals (virtual_seen shape l)) (sym seen) (virtuals_more shape old.seen.items s main old.virtuals new.virtuals stands.noted_virtuals noted.in_virtual);
+      noted_physicals = subst (λ (l : List Seen). FirstsAreNoted new.physicals (physical_seen shape l)) (sym seen) (physicals_more shape old.seen.items s main old.physicals new.physicals stands.noted_physicals noted.in_physical);
       blocks = blocks ∙ stands.blocks;
     }
 

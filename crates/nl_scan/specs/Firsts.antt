@@ -32,7 +32,7 @@ noted image r (Some f) =
     }
 
 -- the first of these pages with this stamp, and whether one of them with that stamp differs from it
-unfoldable pub first_of : List Readable → ℕ → Option First
-first_of pages stamp =
+unfoldable pub first_seen : List Readable → ℕ → Option First
+first_seen pages stamp =
     option_map (λ f. record { page = f.page; rec = f.rec; mixed = list_any (λ q. stamp_on q == stamp && not (agree f q)) pages })
     (find (λ r. stamp_on r == stamp) pages)

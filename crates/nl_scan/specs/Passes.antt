@@ -11,7 +11,7 @@ use Rattle.nl_field.specs.Scan.{without_wear, zeros_from}
 use Rattle.nl_field.specs.SpareRecord.{is_spare, stamp_of}
 use Rattle.nl_field.specs.declared.seen.Seen.{Seen}
 use Rattle.nl_field.specs.declared.spare.SpareRec.{SpareRec}
-use Rattle.nl_scan.specs.Firsts.{first_of, noted}
+use Rattle.nl_scan.specs.Firsts.{first_seen, noted}
 use Rattle.nl_scan.specs.Supers.{no_super, super_after}
 use Rattle.nl_field.specs.ScanList.{seen_of, virtual_seen, physical_seen}
 use Rattle.nl_scan.specs.Tables.{IsSeen, greatest_stamp}
@@ -36,8 +36,8 @@ pub record Notes (rec : SpareRec) (agrees : Bool) (old new : BTreeMap ℕ First)
   pub same : agrees ≡ true → record_for new (stamp_of rec) ≡ Some (without_wear rec)
 
 -- each of these pages that agrees has the record of its stamp
-abbrev pub AreNoted : BTreeMap ℕ First → List Seen → Type 0
-AreNoted firsts pages = All (λ s. s.agrees ≡ true → record_for firsts (stamp_of s.rec) ≡ Some (without_wear s.rec)) pages
+abbrev pub FirstsAreNoted : BTreeMap ℕ First → List Seen → Type 0
+FirstsAreNoted firsts pages = All (λ s. s.agrees ≡ true → record_for firsts (stamp_of s.rec) ≡ Some (without_wear s.rec)) pages
 
 -- a page of the virtual segment with its kind of record
 abbrev pub is_own_virtual : Shape → Readable → Bool
@@ -78,9 +78,9 @@ pub record Added (image : Image) (shape : Shape) (r : Readable) (old new : Pass)
 pub record KnowsPages (image : Image) (at : ℕ) (pass : Pass) : Type 0 where
   pub each_page : pass.seen.items ≡ map (seen_of image) (readable_below image at)
   pub virtuals : (stamp : ℕ) → get nat_cmp pass.virtuals stamp
-      ≡ first_of (filter (is_own_virtual (shape_of_image image)) (readable_below image at)) stamp
+      ≡ first_seen (filter (is_own_virtual (shape_of_image image)) (readable_below image at)) stamp
   pub physicals : (stamp : ℕ) → get nat_cmp pass.physicals stamp
-      ≡ first_of (filter (is_own_physical (shape_of_image image)) (readable_below image at)) stamp
+      ≡ first_seen (filter (is_own_physical (shape_of_image image)) (readable_below image at)) stamp
   pub newest : pass.newest ≡ fold super_after no_super (readable_below image at)
 
 -- so far all pages of the block are erased
@@ -92,7 +92,7 @@ pub record KnowsBlocks (image : Image) (at : ℕ) (erased_so_far : List Bool) : 
   pub each_block : (block : ℕ) → block < image.blocks → IsTrue (slice_index_or erased_so_far block false) ↔ ErasedBelow image at block
 
 -- what holds of a pass below a page, whatever the pages hold
-pub record Stands (geometry : Geometry) (shape : Shape) (at : ℕ) (pass : Pass) : Type 0 where
+pub record IsPassBelow (geometry : Geometry) (shape : Shape) (at : ℕ) (pass : Pass) : Type 0 where
   pub rising : AllPairs (λ a b. a.page < b.page) pass.seen.items
   pub pages : All (IsSeen at) pass.seen.items
   pub few : length pass.seen.items ≤ at
@@ -100,12 +100,12 @@ pub record Stands (geometry : Geometry) (shape : Shape) (at : ℕ) (pass : Pass)
   pub small : pass.greatest < 2 ^ 63
   pub virtuals : AreFirsts (geometry.blocks * geometry.pages) pass.virtuals
   pub physicals : AreFirsts (geometry.blocks * geometry.pages) pass.physicals
-  pub noted_virtuals : AreNoted pass.virtuals (virtual_seen shape pass.seen.items)
-  pub noted_physicals : AreNoted pass.physicals (physical_seen shape pass.seen.items)
+  pub noted_virtuals : FirstsAreNoted pass.virtuals (virtual_seen shape pass.seen.items)
+  pub noted_physicals : FirstsAreNoted pass.physicals (physical_seen shape pass.seen.items)
   pub blocks : length pass.erased.items ≡ geometry.blocks
 
 -- a pass before the first page of a medium of so many blocks
-pub record IsFresh (blocks : ℕ) (pass : Pass) : Type 0 where
+pub record IsFreshPass (blocks : ℕ) (pass : Pass) : Type 0 where
   pub no_pages : pass.seen.items ≡ []
   pub all_erased : pass.erased.items ≡ replicate blocks true
   pub no_virtuals : pass.virtuals.entries ≡ []

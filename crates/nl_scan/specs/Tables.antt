@@ -12,7 +12,7 @@ use Rattle.nl_nand.specs.declared.geometry.Geometry.{Geometry}
 use Rattle.nl_field.specs.declared.seen.Seen.{Seen}
 
 -- the readable pages in rising order, of each block whether all its pages read as erased, and the version on the super page
-pub record Table : Type 0 where
+pub record ScanTable : Type 0 where
   pub seen : List Seen
   pub erased : List Bool
   pub version : ℕ
@@ -22,13 +22,13 @@ unfoldable pub greatest_stamp : List Seen → ℕ
 greatest_stamp seen = fold (λ best s. max best (stamp_of s.rec)) 0 seen
 
 -- what is kept with the pages: their greatest stamp, which is below 2^63, and there are fewer than 2^32 of them
-pub record IsKept (seen : List Seen) (greatest : ℕ) : Type 0 where
+pub record IsSeenTable (seen : List Seen) (greatest : ℕ) : Type 0 where
   pub few : length seen < 2 ^ 32
   pub is_greatest : greatest ≡ greatest_stamp seen
   pub small : greatest < 2 ^ 63
 
 -- a scan of this image tells this
-pub record IsTableOf (image : Image) (t : Table) : Type 0 where
+pub record IsTableOf (image : Image) (t : ScanTable) : Type 0 where
   pub each_page : t.seen ≡ seen_in image
   pub next : 1 + greatest_stamp t.seen ≡ next_stamp_of image
   pub each_block : (block : ℕ) → block < image.blocks
@@ -49,7 +49,7 @@ HaveOneRecord pages =
 
 -- Whatever the pages hold, these are pages of the medium in rising order, there is an answer for each block, and in either segment
 -- a stamp has one record, and so one address or one owner, on all pages that agree.
-pub record FitsMedium (geometry : Geometry) (t : Table) : Type 0 where
+pub record FitsMedium (geometry : Geometry) (t : ScanTable) : Type 0 where
   pub rising : AllPairs (λ a b. a.page < b.page) t.seen
   pub pages : All (IsSeen (geometry.blocks * geometry.pages)) t.seen
   pub blocks : length t.erased ≡ geometry.blocks

@@ -5,7 +5,7 @@ ghost use Rattle.std.specs.BTreeMap.{get, Updates};
 ghost use Rattle.nl_field.specs.Page.{page_at};
 ghost use Rattle.nl_field.specs.SpareRecord.{is_spare, stamp_of};
 ghost use Rattle.nl_field.specs.Scan.{without_wear};
-ghost use Rattle.nl_nand.specs.Nand.{FaultsCounted, OnlyReads};
+ghost use Rattle.nl_nand.specs.Nand.{FaultsCounted, MediumOnlyRead};
 ghost use Rattle.nl_scan.specs.Firsts.{is_alike, same_record, noted};
 ghost use Rattle.nl_scan.specs.Passes.{AreFirsts, Notes};
 
@@ -58,7 +58,7 @@ fn compare<M: Nand>(
         (λ same. same ≡ (is_alike rec.now buf.now.main (first.now.page, page_at (M.contents media.old) first.now.page)
         && same_record first.now.rec rec.now)) }
     ensures same { IfSome result (λ same. same ≡ true → without_wear first.now.rec ≡ without_wear rec.now) }
-    ensures reads { OnlyReads M.geometry M.contents M.clock M.write_faults M.left media.old media.new }
+    ensures reads { MediumOnlyRead M.geometry M.contents M.clock M.write_faults M.left media.old media.new }
     ensures faults { FaultsCounted (M.read_faults media.old) (M.read_faults media.new) (result ≡ None) }
 {
     match media.read(first.page, other) {
@@ -89,7 +89,7 @@ pub fn note<M: Nand>(
         (agrees ≡ not first.mixed) × Updates nat_cmp firsts.old firsts.new (stamp_of rec.now) (Some first)) }
     ensures noted { IfOk result (λ agrees. Notes rec.now agrees firsts.old firsts.new) }
     ensures firsts { OnOk result (AreFirsts ((M.geometry media.old).blocks * (M.geometry media.old).pages) firsts.new) }
-    ensures reads { OnlyReads M.geometry M.contents M.clock M.write_faults M.left media.old media.new }
+    ensures reads { MediumOnlyRead M.geometry M.contents M.clock M.write_faults M.left media.old media.new }
     ensures faults { FaultsCounted (M.read_faults media.old) (M.read_faults media.new) (result ≡ Err Stopped.Fault) }
 {
     let stamp = stamp_on(rec);

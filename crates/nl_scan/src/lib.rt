@@ -3,10 +3,10 @@
 
 ghost use Rattle.std.specs.Prelude.{◌≡◌, ◌*◌, IsTrue, IfOk, Err};
 ghost use Rattle.nl_field.specs.Numbers.{is_legal, shape_for};
-ghost use Rattle.nl_nand.specs.Nand.{FaultsCounted, OnlyReads};
+ghost use Rattle.nl_nand.specs.Nand.{FaultsCounted, MediumOnlyRead};
 ghost use Rattle.nl_scan.specs.Scans.{IfTables};
-ghost use Rattle.nl_scan.specs.Tables.{IsTableOf, IsKept, FitsMedium};
-ghost use Rattle.nl_scan.specs.Passes.{Stands};
+ghost use Rattle.nl_scan.specs.Tables.{IsTableOf, IsSeenTable, FitsMedium};
+ghost use Rattle.nl_scan.specs.Passes.{IsPassBelow};
 
 mod alike;
 mod firsts;
@@ -38,7 +38,7 @@ pub fn scan<M: Nand>(alloc: Global, media: &mut M) -> Scanned
     ensures tables { M.tells → IfTables result (IsTableOf (M.contents media.old)) }
     ensures fits { IfTables result (FitsMedium (M.geometry media.old)) }
     ensures faults { FaultsCounted (M.read_faults media.old) (M.read_faults media.new) (result ≡ Scanned.Fault) }
-    ensures only_reads { OnlyReads M.geometry M.contents M.clock M.write_faults M.left media.old media.new }
+    ensures only_reads { MediumOnlyRead M.geometry M.contents M.clock M.write_faults M.left media.old media.new }
 {
     let geometry = media.geometry();
     match shape_of(geometry.blocks, geometry.pages) {
@@ -52,7 +52,7 @@ pub fn scan<M: Nand>(alloc: Global, media: &mut M) -> Scanned
 }
 
 fn tables_of(pass: Pass) -> ScanTables
-    requires { IsKept pass.seen.items pass.greatest }
+    requires { IsSeenTable pass.seen.items pass.greatest }
     ensures { result ≡ record { seen = pass.seen.items; erased = pass.erased.items; version = pass.newest.version } }
 {
     let Pass {
@@ -79,8 +79,8 @@ fn pages<M: Nand>(
     ensures tables { M.tells → IfOk result
         (λ pass. IsTableOf (M.contents media.old)
         (record { seen = pass.seen.items; erased = pass.erased.items; version = pass.newest.version })) }
-    ensures stands { IfOk result (Stands geometry shape.now (geometry.blocks * geometry.pages)) }
-    ensures reads { OnlyReads M.geometry M.contents M.clock M.write_faults M.left media.old media.new }
+    ensures stands { IfOk result (IsPassBelow geometry shape.now (geometry.blocks * geometry.pages)) }
+    ensures reads { MediumOnlyRead M.geometry M.contents M.clock M.write_faults M.left media.old media.new }
     ensures faults { FaultsCounted (M.read_faults media.old) (M.read_faults media.new) (result ≡ Err Stopped.Fault) }
 {
     let Ok(mut pass) = Pass::new(alloc, geometry.blocks) else {

@@ -3,8 +3,8 @@ ghost use Rattle.std.specs.Prelude.{◌≡◌, ◌↔◌, ◌<◌, ◌≤◌, �
 ghost use Rattle.nl_field.specs.Page.{page_at, erased};
 ghost use Rattle.nl_field.specs.Medium.{first_physical, shape_of_image};
 ghost use Rattle.nl_field.specs.SpareRecord.{is_spare, stamp_of};
-ghost use Rattle.nl_nand.specs.Nand.{FaultsCounted, OnlyReads};
-ghost use Rattle.nl_scan.specs.Passes.{AreFirsts, is_own_virtual, is_own_physical, Compared, NotedIn, Added, IsFresh, KnowsPages, KnowsBlocks, Stands};
+ghost use Rattle.nl_nand.specs.Nand.{FaultsCounted, MediumOnlyRead};
+ghost use Rattle.nl_scan.specs.Passes.{AreFirsts, is_own_virtual, is_own_physical, Compared, NotedIn, Added, IsFreshPass, KnowsPages, KnowsBlocks, IsPassBelow};
 
 use crate::firsts::{First, Stopped, note, stamp_on};
 use crate::super_seen::SuperSeen;
@@ -32,7 +32,7 @@ pub struct Pass {
 impl Pass {
     /// Before the first page of a medium of so many blocks.
     pub fn new(alloc: Global, blocks: u32) -> Result<Pass, Memory>
-        ensures { IfOk result (IsFresh blocks) }
+        ensures { IfOk result (IsFreshPass blocks) }
     {
         let erased = vec![in alloc; true; blocks as usize]?;
         Ok(Pass {
@@ -95,7 +95,7 @@ fn agrees_so_far<M: Nand>(
         (record { page = page; rec = rec.now; main = buf.now.main }) agrees virtuals.old virtuals.new physicals.old physicals.new) }
     ensures virtuals { OnOk result (AreFirsts ((M.geometry media.old).blocks * (M.geometry media.old).pages) virtuals.new) }
     ensures physicals { OnOk result (AreFirsts ((M.geometry media.old).blocks * (M.geometry media.old).pages) physicals.new) }
-    ensures reads { OnlyReads M.geometry M.contents M.clock M.write_faults M.left media.old media.new }
+    ensures reads { MediumOnlyRead M.geometry M.contents M.clock M.write_faults M.left media.old media.new }
     ensures faults { FaultsCounted (M.read_faults media.old) (M.read_faults media.new) (result ≡ Err Stopped.Fault) }
 {
     if is_virtual(shape, page, rec) {
@@ -119,12 +119,12 @@ fn add<M: Nand>(
 ) -> Result<(), Stopped>
     requires page { page < (M.geometry media.old).blocks * (M.geometry media.old).pages }
     requires spelled { IsTrue (is_spare rec) }
-    requires stands { Stands (M.geometry media.old) shape.now page pass.old }
+    requires stands { IsPassBelow (M.geometry media.old) shape.now page pass.old }
     ensures told { M.tells → OnOk result
         (Added (M.contents media.old) shape.now (record { page = page; rec = rec; main = buf.now.main }) pass.old pass.new) }
-    ensures stands { OnOk result (Stands (M.geometry media.old) shape.now (page + 1) pass.new) }
+    ensures stands { OnOk result (IsPassBelow (M.geometry media.old) shape.now (page + 1) pass.new) }
     ensures erased { OnOk result (pass.new.erased.items ≡ pass.old.erased.items) }
-    ensures reads { OnlyReads M.geometry M.contents M.clock M.write_faults M.left media.old media.new }
+    ensures reads { MediumOnlyRead M.geometry M.contents M.clock M.write_faults M.left media.old media.new }
     ensures faults { FaultsCounted (M.read_faults media.old) (M.read_faults media.new) (result ≡ Err Stopped.Fault) }
 {
     let agrees = agrees_so_far(
@@ -164,12 +164,12 @@ fn read_one<M: Nand>(
     requires page { page < (M.geometry media.old).blocks * (M.geometry media.old).pages }
     requires shape { M.tells → shape.now ≡ shape_of_image (M.contents media.old) }
     requires knows { M.tells → KnowsPages (M.contents media.old) page pass.old }
-    requires stands { Stands (M.geometry media.old) shape.now page pass.old }
+    requires stands { IsPassBelow (M.geometry media.old) shape.now page pass.old }
     ensures knows { M.tells → OnOk result (KnowsPages (M.contents media.old) (page + 1) pass.new) }
     ensures is_erased { M.tells → IfOk result (λ e. IsTrue e ↔ (page_at (M.contents media.old) page ≡ erased)) }
-    ensures stands { OnOk result (Stands (M.geometry media.old) shape.now (page + 1) pass.new) }
+    ensures stands { OnOk result (IsPassBelow (M.geometry media.old) shape.now (page + 1) pass.new) }
     ensures erased { OnOk result (pass.new.erased.items ≡ pass.old.erased.items) }
-    ensures reads { OnlyReads M.geometry M.contents M.clock M.write_faults M.left media.old media.new }
+    ensures reads { MediumOnlyRead M.geometry M.contents M.clock M.write_faults M.left media.old media.new }
     ensures faults { FaultsCounted (M.read_faults media.old) (M.read_faults media.new) (result ≡ Err Stopped.Fault) }
 {
     match media.read(page, buf) {
@@ -209,11 +209,11 @@ pub fn step<M: Nand>(
     requires shape { M.tells → shape.now ≡ shape_of_image (M.contents media.old) }
     requires knows { M.tells → KnowsPages (M.contents media.old) page pass.old }
     requires blocks { M.tells → KnowsBlocks (M.contents media.old) page pass.old.erased.items }
-    requires stands { Stands (M.geometry media.old) shape.now page pass.old }
+    requires stands { IsPassBelow (M.geometry media.old) shape.now page pass.old }
     ensures knows { M.tells → OnOk result (KnowsPages (M.contents media.new) (page + 1) pass.new) }
     ensures blocks { M.tells → OnOk result (KnowsBlocks (M.contents media.new) (page + 1) pass.new.erased.items) }
-    ensures stands { OnOk result (Stands (M.geometry media.new) shape.now (page + 1) pass.new) }
-    ensures reads { OnlyReads M.geometry M.contents M.clock M.write_faults M.left media.old media.new }
+    ensures stands { OnOk result (IsPassBelow (M.geometry media.new) shape.now (page + 1) pass.new) }
+    ensures reads { MediumOnlyRead M.geometry M.contents M.clock M.write_faults M.left media.old media.new }
     ensures faults { FaultsCounted (M.read_faults media.old) (M.read_faults media.new) (result ≡ Err Stopped.Fault) }
 {
     let is_erased = read_one(media, pass, shape, page, buf, other)?;

@@ -1,6 +1,6 @@
 //! The tables that a scan leaves.
 ghost use Rattle.std.specs.Prelude.{◌≡◌, ◌<◌, ◌+◌, length, slice_get, slice_index_or, Some, false};
-ghost use Rattle.nl_scan.specs.Tables.{IsKept, greatest_stamp};
+ghost use Rattle.nl_scan.specs.Tables.{IsSeenTable, greatest_stamp};
 
 use nl_field::Seen;
 use std::marker::Model;
@@ -16,13 +16,13 @@ pub struct ScanTables {
 }
 
 impl Model for ScanTables {
-    ghost use Rattle.nl_scan.specs.Tables.{Table, IsKept};
+    ghost use Rattle.nl_scan.specs.Tables.{ScanTable, IsSeenTable};
 
-    ghost Value = { Table };
+    ghost Value = { ScanTable };
 
     ghost view = { λ t. record { seen = t.seen.items; erased = t.erased.items; version = t.version } };
 
-    ghost invariant = { λ t. IsKept t.seen.items t.greatest };
+    ghost invariant = { λ t. IsSeenTable t.seen.items t.greatest };
 }
 
 impl ScanTables {
@@ -33,7 +33,7 @@ impl ScanTables {
         version: u32,
         greatest: u64,
     ) -> ScanTables
-        requires { IsKept seen.items greatest }
+        requires { IsSeenTable seen.items greatest }
         ensures { result ≡ record { seen = seen.items; erased = erased.items; version = version } }
     {
         ScanTables {

@@ -13,7 +13,7 @@ use Rattle.nl_script.specs.declared.refusal.ScriptRefusal.TheVariants.{Refused}
 use Rattle.nl_script.specs.declared.said.Said.TheVariants.{CallOf}
 use Rattle.nl_script.specs.declared.why.Why.TheVariants.{Size, Lines as LinesCause, Total}
 use Rattle.nl_script.specs.Grammar.{line_says}
-use Rattle.nl_script.specs.Script.{max_script, max_calls, max_total, counted, line_before, lines_from, script}
+use Rattle.nl_script.specs.Script.{max_script, max_calls, max_total, with_read_total, line_before, lines_from, script}
 use Rattle.nl_script.specs.Words.{parts, without_last_empty, lines_of}
 use Rattle.nl_script.proofs.Placed.{more}
 use Rattle.nl_script.proofs.Says.{IsCallLine}
@@ -25,15 +25,15 @@ pub record IsCallOf (most : ℕ) (raw : List ℕ) : Type 0 where
   pub says : IsCallLine raw worker made
   pub short : read_length made ≤ most
 
-counted_ok : (calls total : ℕ) (made : Call) → calls < max_calls → total + read_length made ≤ max_total → counted calls total made ≡ Ok (total + read_length made)
-unfolding counted
+counted_ok : (calls total : ℕ) (made : Call) → calls < max_calls → total + read_length made ≤ max_total → with_read_total calls total made ≡ Ok (total + read_length made)
+unfolding with_read_total
 counted_ok calls total made few small =
     let sum = total + read_length made in
     let a : nat_le max_calls calls ≡ false = grind (arith, nat_tests) in
     let b : nat_lt max_total sum ≡ false = grind (arith, nat_tests) in
     ap (λ (x : Bool). cond x (Err LinesCause) (cond (nat_lt max_total sum) (Err Total) (Ok sum))) a ∙ ap (λ (x : Bool). cond x (Err Total) (Ok sum)) b
 
-step : (n round calls total sum w : ℕ) (made : Call) (raw : List ℕ) (rest : List (List ℕ)) → line_says raw ≡ Ok (CallOf w made) → counted calls total made ≡ Ok sum
+step : (n round calls total sum w : ℕ) (made : Call) (raw : List ℕ) (rest : List (List ℕ)) → line_says raw ≡ Ok (CallOf w made) → with_read_total calls total made ≡ Ok sum
     → lines_from n round calls total (raw ∷ rest) ≡ line_before (record { line = n; round = round; worker = w; call = made }) (lines_from (n + 1) round (calls + 1) sum rest)
 unfolding lines_from
 step n round calls total sum w made raw rest said is = rw (said, is, lines_from) refl

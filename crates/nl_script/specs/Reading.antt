@@ -15,7 +15,7 @@ abbrev pub read_on : Place → List Line → List (List ℕ) → Result (List Li
 read_on at lines rest = lines_before lines (lines_from (at.number + 1) at.round (length lines) at.total rest)
 
 -- a script that gave these lines up to a place
-pub record IsRead (at : Place) (lines : List Line) : Type 0 where
+pub record IsReadScript (at : Place) (lines : List Line) : Type 0 where
   pub rising : All (λ l. (l.line ≤ at.number) × (l.round ≤ at.round)) lines
   pub rounds : at.round ≤ at.number
   pub calls : length lines ≤ max_calls

@@ -31,8 +31,8 @@ abbrev pub read_total : List Line → ℕ
 read_total lines = sum_by (λ l. read_length l.call) lines
 
 -- the sum of the read lengths with one more call, behind so many calls with that sum, or why it is one too many
-unfoldable pub counted : ℕ → ℕ → Call → Result ℕ Why
-counted calls total made =
+unfoldable pub with_read_total : ℕ → ℕ → Call → Result ℕ Why
+with_read_total calls total made =
     let sum = total + read_length made in
     if nat_le max_calls calls then Err LinesCause
     else if nat_lt max_total sum then Err Total
@@ -47,7 +47,7 @@ lines_from n round calls total (raw ∷ rest) =
       | Ok Nothing ↦ lines_from (n + 1) round calls total rest
       | Ok Barrier ↦ lines_from (n + 1) (round + 1) calls total rest
       | Ok (CallOf worker made) ↦
-          elim (counted calls total made) [
+          elim (with_read_total calls total made) [
             | Err why ↦ Err (Refused n 1 why)
             | Ok sum ↦ line_before (record { line = n; round = round; worker = worker; call = made })
                 (lines_from (n + 1) round (calls + 1) sum rest)

@@ -4,7 +4,7 @@ ghost use Rattle.nl_tree.specs.Calls as calls_of;
 ghost use Rattle.nl_tree.specs.Calls.{IsBounded};
 ghost use Rattle.nl_script.specs.Script as spec;
 ghost use Rattle.nl_script.specs.Script.{max_calls, max_total};
-ghost use Rattle.nl_script.specs.Reading.{read_on, IsRead};
+ghost use Rattle.nl_script.specs.Reading.{read_on, IsReadScript};
 ghost use Rattle.nl_script.specs.declared.refusal.ScriptRefusal.TheVariants.{Refused, Memory as OutOfMemory};
 ghost use Rattle.nl_script.specs.declared.why.Why.{Why};
 
@@ -41,7 +41,7 @@ fn read_length(call: &Call) -> u32
 #[tactic(auto, unfolding(crate::specs::Script::counted))]
 fn counted(calls: u32, total: u64, call: &Call) -> Result<u64, Why>
     requires { total ≤ max_total }
-    ensures sum { result ≡ spec.counted calls total call.now }
+    ensures sum { result ≡ spec.with_read_total calls total call.now }
     ensures calls { OnOk result (calls < max_calls) }
     ensures total { IfOk result (λ sum. (sum ≤ max_total) × (sum ≡ total + calls_of.read_length call.now)) }
 {
@@ -62,10 +62,10 @@ pub(crate) fn read_line(
     at: Place,
     lines: &mut Lines,
 ) -> Result<Place, ScriptRefusal>
-    requires read { IsRead at lines.old }
+    requires read { IsReadScript at lines.old }
     requires number { at.number < 16777216 }
     ensures goes_on { IfOk result (λ next. (rest : List (List ℕ)) → read_on at lines.old (raw.now ∷ rest) ≡ read_on next lines.new rest) }
-    ensures read { IfOk result (λ next. IsRead next lines.new) }
+    ensures read { IfOk result (λ next. IsReadScript next lines.new) }
     ensures number { IfOk result (λ next. next.number ≡ at.number + 1) }
     ensures refusal { IfErr result (λ e. (e ≡ OutOfMemory) ⊎ ((rest : List (List ℕ)) → read_on at lines.old (raw.now ∷ rest) ≡ Err e)) }
 {
@@ -97,16 +97,16 @@ fn add_call(
     worker: u8,
     call: Call,
 ) -> Result<Place, ScriptRefusal>
-    requires read { IsRead at lines.old }
+    requires read { IsReadScript at lines.old }
     requires number { number ≡ at.number + 1 }
     requires worker { worker ≤ 7 }
     requires bounded { IsBounded call }
-    ensures counted { IfOk result (λ next. spec.counted (length lines.old) at.total call ≡ Ok next.total) }
+    ensures counted { IfOk result (λ next. spec.with_read_total (length lines.old) at.total call ≡ Ok next.total) }
     ensures place { IfOk result (λ next. (next.number ≡ number) × (next.round ≡ at.round)) }
     ensures added { OnOk result (lines.new ≡ lines.old ++ record { line = number; round = at.round; worker = worker; call = call } ∷ []) }
-    ensures read { IfOk result (λ next. IsRead next lines.new) }
+    ensures read { IfOk result (λ next. IsReadScript next lines.new) }
     ensures refusal { IfErr result (λ e. (e ≡ OutOfMemory)
-        ⊎ ((why : Why) × (spec.counted (length lines.old) at.total call ≡ Err why) × (e ≡ Refused number 1 why))) }
+        ⊎ ((why : Why) × (spec.with_read_total (length lines.old) at.total call ≡ Err why) × (e ≡ Refused number 1 why))) }
 {
     match counted(lines.len(), at.total, &call) {
         Err(why) => Err(ScriptRefusal::Refused {

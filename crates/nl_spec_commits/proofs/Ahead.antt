@@ -7,7 +7,7 @@ use Rattle.nl_iface.specs.declared.counts.Counts.{Ghosts}
 use Rattle.nl_journal.specs.Committing.{ahead_on, committed_on, finished}
 use Rattle.nl_journal.specs.Outcomes.{IsHome, May, bytes_of}
 use Rattle.nl_journal.specs.Progress.{HasNumber, Progress, transaction}
-use Rattle.nl_journal.specs.Standing.{Stands}
+use Rattle.nl_journal.specs.Standing.{JournalInPhase}
 use Rattle.nl_journal.specs.Transaction.{IsTransaction, main_at, place}
 use Rattle.nl_journal.specs.declared.answers.Phase.{Phase}
 use Rattle.nl_journal.specs.declared.answers.Phase.TheVariants.{Header, Image, Commit, Home}
@@ -43,7 +43,7 @@ finished_beside (Home i) frozen base v none = refl
 module _ {D : Type 0} (g : Ghosts D) (s : D) (p : Progress) (pages : Pages) (j : IsJournaled g s p pages) (held : IsPages pages) (dirty : IsTransaction (g.shape s).vaddrs (dirty_pages pages)) (tells : g.tells)
     (numbers : HasNumber p (length pages.frozen.addresses)) where
   abbrev pub StandsAt : Phase → Type 0
-  StandsAt x = Stands x (g.shape s) (May (g.map s) (g.failed s)) (bytes_of (g.map s)) (committed_on g s) (transaction p) pages.frozen
+  StandsAt x = JournalInPhase x (g.shape s) (May (g.map s) (g.failed s)) (bytes_of (g.map s)) (committed_on g s) (transaction p) pages.frozen
 
   -- the committed page of an address that is not frozen is the device's
   base_bytes : (u : ℕ) → IsHome (g.shape s).vaddrs u → place pages.frozen u ≡ None → (x : Phase) → StandsAt x → bytes_of (g.map s) u ≡ committed_on g s u

@@ -5,15 +5,15 @@ use Rattle.nl_iface.specs.declared.counts.Counts.{Ghosts}
 use Rattle.nl_journal.specs.Homes.{AreHome, copied}
 use Rattle.nl_journal.specs.Outcomes.{bytes_of}
 use Rattle.nl_journal.specs.Progress.{Progress}
-use Rattle.nl_journal.specs.Standing.{InOrder}
+use Rattle.nl_journal.specs.Standing.{JournalInOrder}
 use Rattle.nl_meta.specs.Pages.{Frozen, Pages, page_of}
-use Rattle.nl_meta.specs.Steps.{ChangesPages}
-use Rattle.nl_meta_running.specs.Running.{Runs}
+use Rattle.nl_meta.specs.Steps.{ChangesRunningPages}
+use Rattle.nl_meta_running.specs.Running.{RunningIsRight}
 use Rattle.nl_journal_commit.specs.Standing.{HasFrozen, IsJournaled}
 use Rattle.nl_journal_commit.proofs.Standing.{addresses_stand}
 use Rattle.nl_spec_commits.specs.SettlingLaws.{ChangesJournaled, StepsJournaled}
 
-module _ {D : Type 0} (g : Ghosts D) (s : D) (p : Progress) (pages now : Pages) (j : IsJournaled g s p pages) (c : ChangesPages pages now) where
+module _ {D : Type 0} (g : Ghosts D) (s : D) (p : Progress) (pages now : Pages) (j : IsJournaled g s p pages) (c : ChangesRunningPages pages now) where
   -- a page of the transaction
   abbrev pub at : ℕ → ℕ
   at i = get_or pages.frozen.addresses i 0
@@ -31,10 +31,10 @@ module _ {D : Type 0} (g : Ghosts D) (s : D) (p : Progress) (pages now : Pages) 
       (λ home. ⊎_elim (λ zero. absurd (let e = zero in let off : ⊥ = omega (arith, e, low) in off)) (λ far. absurd (let f = far in let off : ⊥ = omega (arith, f, high) in off)) home)
       (c.apart v (ap is_some is))
 
-  pub journaled_on : Runs g s now → IsJournaled g s p now
+  pub journaled_on : RunningIsRight g s now → IsJournaled g s p now
   journaled_on runs = record {
     runs = runs;
-    order = subst (λ (x : Frozen). InOrder g s p x) (sym c.same_frozen) j.order;
+    order = subst (λ (x : Frozen). JournalInOrder g s p x) (sym c.same_frozen) j.order;
     home = λ tells. subst (λ (x : Frozen). AreHome x (copied p.phase) (bytes_of (g.map s))) (sym c.same_frozen) (j.home tells);
     frozen = subst (λ (x : Frozen). HasFrozen (record now { frozen = x })) (sym c.same_frozen) has_frozen;
     super_page = c.stays 0 j.super_page;

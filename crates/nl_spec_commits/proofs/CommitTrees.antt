@@ -13,7 +13,7 @@ use Rattle.nl_field.specs.declared.pointer.Pointer.{Pointer}
 use Rattle.nl_field.specs.declared.pointer.Tag.{Tag}
 use Rattle.nl_field.specs.declared.shape.Shape.{Shape}
 use Rattle.nl_tree.specs.Tree.{Tree}
-use Rattle.nl_iface.specs.Calls.{Leaves}
+use Rattle.nl_iface.specs.Calls.{CrashStatesHave}
 use Rattle.nl_iface.specs.Device.{IsVolumeShape}
 use Rattle.nl_iface.specs.Stored.{Stored}
 use Rattle.nl_iface.specs.declared.counts.Counts.{Ghosts}
@@ -30,18 +30,18 @@ use Rattle.nl_meta.specs.Steps.{with_dirty}
 use Rattle.nl_meta_running.specs.Running.{running_on}
 use Rattle.nl_spec_image.specs.LeftIsSound.{LeavesTree}
 use Rattle.nl_journal_commit.specs.Committing.{ChangesAt, CommitsInParts, EarlierAt}
-use Rattle.nl_journal_commit.specs.Completing.{Completes, IsDecided, IsOpen}
+use Rattle.nl_journal_commit.specs.Completing.{Completes, IsDecided, AwaitsCommitPage}
 use Rattle.nl_journal_commit.specs.Counting.{record_of, with_count, with_frozen}
-use Rattle.nl_journal_commit.specs.Standing.{CanFreeze, IsJournaled, StandsOn}
+use Rattle.nl_journal_commit.specs.Standing.{CanFreeze, IsJournaled, PreservesGraph}
 use Rattle.nl_journal_commit.proofs.CommittingSteps.{first_is_dirty}
 use Rattle.nl_journal_commit.proofs.CompletingSteps.{closed_by, closed_pages}
 use Rattle.nl_journal_commit.proofs.Places.{resident_below}
 use Rattle.nl_journal_commit.proofs.Standing.{dirty_is_a_transaction, freezing_stands, super_page_stands}
 use Rattle.nl_spec_commits.specs.Committed.{IsHoldingOn, read_as}
 use Rattle.nl_spec_commits.specs.Held.{IsHeldVolume}
-use Rattle.nl_spec_commits.specs.Standing.{IsFirm, LeadsCommitted, LeavesStanding, ShowsPages, StandFor}
-use Rattle.nl_spec_commits.specs.TreeLaws.{CommitGoes, CommitLeaves, CommitsTrees, OpensFrom, committed_by, completed, decided_tree, frozen_now, moment_of}
-use Rattle.nl_spec_commits.specs.Trees.{OpensAs, Prefix, StandsFor, Trees, prefixes}
+use Rattle.nl_spec_commits.specs.Standing.{IsFirm, LeadsCommitted, LeavesRepresented, ShowsPages, RepresentsAndLeads}
+use Rattle.nl_spec_commits.specs.TreeLaws.{CommitPreservesTrees, CommitLeaves, CommitsTrees, OpensFrom, committed_by, completed, decided_tree, frozen_now, last_commit_moment}
+use Rattle.nl_spec_commits.specs.Trees.{StoredOpensAs, Prefix, RepresentsTrees, Trees, prefixes}
 use Rattle.nl_spec_commits.proofs.Ahead.{runs_some}
 use Rattle.nl_spec_commits.proofs.Counted.{super_page_held}
 use Rattle.nl_spec_commits.proofs.Freezing.{number_before, super_pages_hold}
@@ -62,16 +62,16 @@ committed_whole count earlier None x = refl
 committed_whole count earlier (Some moment) x = refl
 
 module _ {D : Type 0} (g : Ghosts D) (done : Type 0) (s t : D) (p r : Progress) (pages now : Pages) (count : ℕ) (page_of_stamp : ℕ → Option PageOfStamp) (x : Trees) (earlier decided : Option ℕ) (volume : IsVolumeShape (g.shape s)) (tells : g.tells)
-    (numbers : HasNumber r (length now.frozen.addresses)) (small : count < 2 ^ 63) (j : IsJournaled g s p pages) (at : StandsFor g s p pages count page_of_stamp x) where
+    (numbers : HasNumber r (length now.frozen.addresses)) (small : count < 2 ^ 63) (j : IsJournaled g s p pages) (at : RepresentsTrees g s p pages count page_of_stamp x) where
   abbrev pub counted : Pages
   counted = with_count (g.shape s) count pages
 
-  stored : StandsOn g s pages s p counted
+  stored : PreservesGraph g s pages s p counted
   stored = super_page_stands g s p pages (super_bytes (record_of (g.shape s) count)) volume j
 
   -- the first part alone
   halves : (m : D) (q : Progress) (mid : Pages) (half : Type 0) → HasNumber p (length pages.frozen.addresses) → Completes g half s p counted m q mid → IsDecided earlier p q counted.frozen mid.frozen
-      → StandsFor g m q mid count page_of_stamp (completed earlier x)
+      → RepresentsTrees g m q mid count page_of_stamp (completed earlier x)
   halves m q mid half small_p c is = goes_on g half s m p q counted mid count page_of_stamp x volume tells small_p stored.journaled c
       (super_page_goes g s p pages (g.shape s) count count page_of_stamp x volume j at) earlier is
 
@@ -108,7 +108,7 @@ module _ {D : Type 0} (g : Ghosts D) (done : Type 0) (s t : D) (p r : Progress) 
       super_there : page_of counted 0 ≡ Some (super_bytes (record_of (g.shape s) count))
       super_there = dirty_there g s p pages (super_bytes (record_of (g.shape s) count)) j
 
-pub commit_goes : {D : Type 0} (g : Ghosts D) → CommitGoes g
+pub commit_goes : {D : Type 0} (g : Ghosts D) → CommitPreservesTrees g
 commit_goes {D = D} g answer s t p r pages now count page_of_stamp x earlier decided volume tells numbers small j c at = ⊎_elim
     (λ y.
     subst (λ (d : D). CommitsTrees g d r now count page_of_stamp earlier decided x) (sym y.1)
@@ -121,8 +121,8 @@ commit_goes {D = D} g answer s t p r pages now count page_of_stamp x earlier dec
 -- ---- what a stop leaves
 
 -- pages that agree with those that stand for a tree, and whose pointers lead
-stand_alike : {D : Type 0} (g : Ghosts D) (s : D) (old new : VirtualMap) (page_of_stamp : ℕ → Option PageOfStamp) (z : Prefix) → Agrees (g.shape s).vaddrs new old → StandFor g s old page_of_stamp z.0 z.1
-    → StandFor g s new page_of_stamp z.0 z.1
+stand_alike : {D : Type 0} (g : Ghosts D) (s : D) (old new : VirtualMap) (page_of_stamp : ℕ → Option PageOfStamp) (z : Prefix) → Agrees (g.shape s).vaddrs new old → RepresentsAndLeads g s old page_of_stamp z.0 z.1
+    → RepresentsAndLeads g s new page_of_stamp z.0 z.1
 stand_alike g s old new page_of_stamp z alike m = record {
   map = stands_as (g.shape s) old new page_of_stamp z alike m.map;
   lead = λ h has. m.lead h (subst (λ (hs : List Held). Has hs h)
@@ -131,7 +131,7 @@ stand_alike g s old new page_of_stamp z alike m = record {
 
 module _ {D : Type 0} (g : Ghosts D) (s t : D) (p r : Progress) (pages now : Pages) (count : ℕ) (page_of_stamp : ℕ → Option PageOfStamp) (x : Trees) (flight : List (Tag × Pointer)) (freeing : List Pointer) (volume : IsVolumeShape (g.shape s))
     (tells : g.tells) (numbers : HasNumber p (length pages.frozen.addresses)) (small : count < 2 ^ 63) (j : IsJournaled g s p pages) (held : IsPages pages) (h : IsHeldVolume g s p pages flight freeing)
-    (firm : IsFirm g s) (shows : ShowsPages (g.names s) (g.bytes s) page_of_stamp) (at : StandsFor g s p pages count page_of_stamp x) where
+    (firm : IsFirm g s) (shows : ShowsPages (g.names s) (g.bytes s) page_of_stamp) (at : RepresentsTrees g s p pages count page_of_stamp x) where
   abbrev pub counted_pages : Pages
   counted_pages = with_count (g.shape s) count pages
 
@@ -147,13 +147,13 @@ module _ {D : Type 0} (g : Ghosts D) (s t : D) (p r : Progress) (pages now : Pag
   keeps : KeepsCommitted v
   keeps = h.committed (tells, numbers)
 
-  stands : StandsFor g s p counted_pages count page_of_stamp x
+  stands : RepresentsTrees g s p counted_pages count page_of_stamp x
   stands = super_page_goes g s p pages (g.shape s) count count page_of_stamp x volume j at
 
   leads : LeadsCommitted g s p counted_pages page_of_stamp
   leads = held_lead g s p counted_pages v page_of_stamp tells numbers on keeps shows
 
-  shut_alike : (IsOpen p counted_pages.frozen → ⊥) → Agrees (g.shape s).vaddrs (finished_on g s p counted_pages) (committed_on g s)
+  shut_alike : (AwaitsCommitPage p counted_pages.frozen → ⊥) → Agrees (g.shape s).vaddrs (finished_on g s p counted_pages) (committed_on g s)
   shut_alike shut u home = sym (closed_pages p.phase counted_pages.frozen (committed_on g s) (g.shape s).vaddrs
       (closed_by p.phase counted_pages.frozen journaled.order.phase
       (⊎_elim (λ more. absurd (shut more)) (λ few. few) (cases_lt (length counted_pages.frozen.addresses) (units_left p.phase (length counted_pages.frozen.addresses))))) u home)
@@ -161,28 +161,28 @@ module _ {D : Type 0} (g : Ghosts D) (s t : D) (p r : Progress) (pages now : Pag
   are : IsPages counted_pages
   are = super_page_held pages (super_bytes (record_of (g.shape s) count)) held j.super_page
 
-  first : StandFor g s (committed_on g s) page_of_stamp x.committed.0 x.committed.1
+  first : RepresentsAndLeads g s (committed_on g s) page_of_stamp x.committed.0 x.committed.1
   first = leads.committed x.committed.0 x.committed.1 stands.committed
 
-  second : StandFor g s (finished_on g s p counted_pages) page_of_stamp x.frozen.0 x.frozen.1
+  second : RepresentsAndLeads g s (finished_on g s p counted_pages) page_of_stamp x.frozen.0 x.frozen.1
   second = ⊎_elim (λ more. leads.frozen more x.frozen.0 x.frozen.1 (stands.frozen more))
-      (λ shut. subst (λ (z : Prefix). StandFor g s (finished_on g s p counted_pages) page_of_stamp z.0 z.1) (sym (stands.thawed shut))
+      (λ shut. subst (λ (z : Prefix). RepresentsAndLeads g s (finished_on g s p counted_pages) page_of_stamp z.0 z.1) (sym (stands.thawed shut))
       (stand_alike g s (committed_on g s) (finished_on g s p counted_pages) page_of_stamp x.committed (shut_alike shut) first))
       (is_open p counted_pages.frozen)
 
-  third : StandFor g s (ahead_on g s p counted_pages) page_of_stamp count x.running
+  third : RepresentsAndLeads g s (ahead_on g s p counted_pages) page_of_stamp count x.running
   third = running_lead g s p counted_pages v page_of_stamp count x.running tells numbers volume journaled are (dirty_is_a_transaction g s p counted_pages journaled are (first_is_dirty pages.dirty)) on.runs h.holds shows
       (with_super (g.shape s) (running_on g s counted_pages) page_of_stamp count x.running small
       (runs_some g s counted_pages 0 (super_bytes (record_of (g.shape s) count)) (dirty_there g s p pages (super_bytes (record_of (g.shape s) count)) j)) stands.running)
 
-  leaves : LeavesStanding g s
+  leaves : LeavesRepresented g s
   leaves = stops_stand g s volume firm
 
   -- as one of the trees
   abbrev pub Opens : ℕ → Stored → Type 0
-  Opens least c = (z : Prefix) × Has (prefixes count x) z × OpensAs (g.shape s) c z × (least ≤ z.0)
+  Opens least c = (z : Prefix) × Has (prefixes count x) z × StoredOpensAs (g.shape s) c z × (least ≤ z.0)
 
-  opens : (c : Stored) (z : Prefix) → LeavesTree (g.shape s) (g.names s) (g.bytes s) page_of_stamp c z.0 z.1 → OpensAs (g.shape s) c z
+  opens : (c : Stored) (z : Prefix) → LeavesTree (g.shape s) (g.names s) (g.bytes s) page_of_stamp c z.0 z.1 → StoredOpensAs (g.shape s) c z
   opens c z l = (g.names s, g.bytes s, page_of_stamp, l)
 
   pub last_opens : (c : Stored) → LeavesOne g s (ahead_on g s p counted_pages) c → Opens count c
@@ -215,7 +215,7 @@ module _ {D : Type 0} (g : Ghosts D) (s t : D) (p r : Progress) (pages now : Pag
   earlier_no moment m to few e after = let lt = e (omega (arith, to, few)) in omega (arith, lt, after)
 
   turned : (moment : ℕ) (committed : Prefix) (A : Stored → Type 0) → ((c : Stored) → A c → Opens committed.0 c) → g.clock t < 2 ^ 63
-      → Leaves g (Turns ⊤ moment (LeavesOneOf g s (committed_on g s) (finished_on g s p counted_pages) (ahead_on g s p counted_pages)) A) s t → Leaves g (From moment committed) s t
+      → CrashStatesHave g (Turns ⊤ moment (LeavesOneOf g s (committed_on g s) (finished_on g s p counted_pages) (ahead_on g s p counted_pages)) A) s t → CrashStatesHave g (From moment committed) s t
   turned moment committed A opens_a few l = record {
     later = l.later;
     each = λ m c left. ⊎_elim inl
@@ -231,7 +231,7 @@ module _ {D : Type 0} (g : Ghosts D) (s t : D) (p r : Progress) (pages now : Pag
 
   pub leaves_from : (before : ℕ) (done : Type 0) (earlier decided : Option ℕ) → HasNumber r (length now.frozen.addresses) → g.clock t < 2 ^ 63 → CommitWrites g done p r counted_pages now s t
       → IfSome earlier (EarlierAt g s t p r counted_pages now) → IfSome decided (ChangesAt g s t p r counted_pages now)
-      → Leaves g (From (moment_of before earlier decided) (committed_by count earlier decided x)) s t
+      → CrashStatesHave g (From (last_commit_moment before earlier decided) (committed_by count earlier decided x)) s t
   leaves_from before done earlier (Some moment) numbers_r few w e d = turned moment (count, x.running) (LeavesOne g s (ahead_on g s p counted_pages)) last_opens few (d.stops tells numbers_r)
   leaves_from before done (Some moment) None numbers_r few w e d =
       turned moment x.frozen (LeavesEither g s (finished_on g s p counted_pages) (ahead_on g s p counted_pages)) either_opens few (e.stops tells numbers_r)

@@ -8,7 +8,7 @@ use Rattle.nl_field.specs.declared.shape.Shape.{Shape}
 use Rattle.nl_iface.specs.Device.{IsVolumeShape}
 use Rattle.nl_iface.specs.declared.counts.Counts.{Ghosts}
 use Rattle.nl_spec_holders.specs.Holding.{Holding}
-use Rattle.nl_spec_holders.specs.Laws.{Keeps}
+use Rattle.nl_spec_holders.specs.Laws.{PreservesHolding}
 use Rattle.nl_spec_holders.proofs.LawProofs.{decide_keeps}
 use Rattle.nl_journal.specs.Committing.{committed_on, finished_on}
 use Rattle.nl_journal.specs.Left.{FinishWrites}
@@ -20,13 +20,13 @@ use Rattle.nl_journal.proofs.Finishing.{agrees_then}
 use Rattle.nl_meta.specs.Committed.{VirtualMap}
 use Rattle.nl_meta.specs.Pages.{Pages}
 use Rattle.nl_meta_running.proofs.Holds.{bounds-of}
-use Rattle.nl_journal_commit.specs.Completing.{Completes, IsOpen}
+use Rattle.nl_journal_commit.specs.Completing.{Completes, AwaitsCommitPage}
 use Rattle.nl_journal_commit.specs.Holding.{running_holders}
 use Rattle.nl_journal_commit.specs.Standing.{IsJournaled}
 use Rattle.nl_journal_commit.proofs.CompletingSteps.{IsClosed, closed_by, closed_number, closed_pages}
 use Rattle.nl_journal_commit.proofs.HoldingOn.{holders_stand}
 use Rattle.nl_spec_commits.specs.Committed.{AreKept, IsHoldingOn, KeepsJournaled}
-use Rattle.nl_spec_commits.specs.CommittedLaws.{CompletingHolds, HoldsOn}
+use Rattle.nl_spec_commits.specs.CommittedLaws.{CompletingHolds, PreservesHoldingInFlight}
 use Rattle.nl_spec_commits.proofs.Kept.{keeps_then, kept_alike}
 
 -- a transaction whose commit page is to be written has the number behind the last one
@@ -58,7 +58,7 @@ module _ {D : Type 0} (g : Ghosts D) (answer : VirtualWrite) (s t : D) (p q : Pr
   abbrev pub waits : Holding
   waits = record v { names = g.names t; running = running_holders g t now }
 
-  waits_keeps : Keeps v waits
+  waits_keeps : PreservesHolding v waits
   waits_keeps = holders_stand g s t q pages now v is.runs c.same_shape c.tables c.stands
 
   -- or it is
@@ -77,12 +77,12 @@ module _ {D : Type 0} (g : Ghosts D) (answer : VirtualWrite) (s t : D) (p q : Pr
   new_number : units_left q.phase new_count ≤ new_count → q.number ≡ begun p old_count
   new_number few = sym (closed_number q now.frozen (new_closed few)) ∙ c.finishes.begun_stays
 
-  not_open : units_left q.phase new_count ≤ new_count → IsOpen q now.frozen → ⊥
+  not_open : units_left q.phase new_count ≤ new_count → AwaitsCommitPage q now.frozen → ⊥
   not_open few more = omega (arith, few, more)
 
   -- ---- the commit page is written
 
-  decided_told : IsOpen p pages.frozen → units_left q.phase new_count ≤ new_count → g.tells → HasNumber q new_count → KeepsJournaled g t q now decides
+  decided_told : AwaitsCommitPage p pages.frozen → units_left q.phase new_count ≤ new_count → g.tells → HasNumber q new_count → KeepsJournaled g t q now decides
   decided_told was few tells numbers =
       let k = is.told tells (before numbers) in
       let w = c.writes tells (before numbers) in
@@ -99,7 +99,7 @@ module _ {D : Type 0} (g : Ghosts D) (answer : VirtualWrite) (s t : D) (p q : Pr
 
   -- ---- it is still to be written
 
-  open_told : IsOpen q now.frozen → g.tells → HasNumber q new_count → KeepsJournaled g t q now waits
+  open_told : AwaitsCommitPage q now.frozen → g.tells → HasNumber q new_count → KeepsJournaled g t q now waits
   open_told more tells numbers = record {
     decided = k.decided ∙ sym same;
     number = k.number ∙ sym c.finishes.begun_stays;
@@ -124,7 +124,7 @@ module _ {D : Type 0} (g : Ghosts D) (answer : VirtualWrite) (s t : D) (p q : Pr
       same : q.number ≡ p.number
       same = ⊎_elim (λ x. x.0) (λ x. absurd (let e = x.0 in let no : ⊥ = omega (arith, e, ahead, stays) in no)) w.decided
 
-      was : IsOpen p pages.frozen
+      was : AwaitsCommitPage p pages.frozen
       was = ⊎_elim (λ m. m) (λ few. absurd (let e = closed_number p pages.frozen (old_closed few) in let no : ⊥ = omega (arith, e, ahead, stays, same) in no)) (cases_lt old_count (units_left p.phase old_count))
 
   -- ---- nothing was to be written
@@ -149,7 +149,7 @@ module _ {D : Type 0} (g : Ghosts D) (answer : VirtualWrite) (s t : D) (p q : Pr
   runs_now : (w : Holding) → w.names ≡ g.names t → w.running ≡ running_holders g t now → (g.tells → HasNumber q new_count → KeepsJournaled g t q now w) → IsHoldingOn g t q now w
   runs_now w names running told = record { runs = record { names = names; running = running }; told = told }
 
-  pub completing_holds : (w : Holding) × IsHoldingOn g t q now w × HoldsOn v w × (IsOpen p pages.frozen → answer ≡ write.Done → w.due ≡ v.leaving)
+  pub completing_holds : (w : Holding) × IsHoldingOn g t q now w × PreservesHoldingInFlight v w × (AwaitsCommitPage p pages.frozen → answer ≡ write.Done → w.due ≡ v.leaving)
   completing_holds = ⊎_elim
       (λ more. (waits, runs_now waits refl refl (open_told more), record { keeps = waits_keeps; same_flight = refl; same_freeing = refl }, λ was done. absurd (let left = c.finishes.left done in let no : ⊥ = omega (arith, left, more) in no)))
       (λ few. ⊎_elim

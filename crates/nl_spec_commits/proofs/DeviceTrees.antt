@@ -8,7 +8,7 @@ use Rattle.nl_field.specs.declared.header.HeaderRec.{HeaderRec}
 use Rattle.nl_field.specs.declared.shape.Shape.{Shape}
 use Rattle.nl_tree.specs.Tree.{Tree}
 use Rattle.nl_spec_holders.specs.Holding.{Holding, KeepsCommitted}
-use Rattle.nl_spec_holders.specs.Laws.{Keeps}
+use Rattle.nl_spec_holders.specs.Laws.{PreservesHolding}
 use Rattle.nl_iface.specs.Calls.{KeepsVirtual, StoresMap, stored}
 use Rattle.nl_iface.specs.Device.{IsVolumeShape}
 use Rattle.nl_iface.specs.Holders.{IsRef, wants}
@@ -22,24 +22,24 @@ use Rattle.nl_journal.proofs.Finishing.{finished_same}
 use Rattle.nl_journal.proofs.InOrders.{stays}
 use Rattle.nl_journal.proofs.Openings.{counting_is, counting_same}
 use Rattle.nl_meta.specs.Committed.{VirtualMap, committed, counting, home_or_image, place_in}
-use Rattle.nl_meta.specs.Consistent.{IsThere, PageOfStamp, RightFor}
+use Rattle.nl_meta.specs.Consistent.{PointerIsThere, PageOfStamp, RightFor}
 use Rattle.nl_meta.specs.Nodes.{Held, graph_of, held_in}
 use Rattle.nl_meta.specs.Pages.{Pages}
 use Rattle.nl_meta.proofs.Lists.{none_some}
 use Rattle.nl_meta_running.specs.Running.{running_on}
 use Rattle.nl_meta_running.proofs.Holds.{bounds-of}
-use Rattle.nl_spec_image.specs.LeftIsSound.{IsLiveFor, MapStands, committed_in}
+use Rattle.nl_spec_image.specs.LeftIsSound.{IsLiveFor, MapRepresents, committed_in}
 use Rattle.nl_spec_image.specs.RightFor.{PagesRepresent}
 use Rattle.nl_spec_image.specs.Stands.{bytes_for}
 use Rattle.nl_spec_image.proofs.Represented.{represents_same}
-use Rattle.nl_journal_commit.specs.Completing.{IsOpen}
+use Rattle.nl_journal_commit.specs.Completing.{AwaitsCommitPage}
 use Rattle.nl_journal_commit.specs.Standing.{IsJournaled}
 use Rattle.nl_journal_commit.proofs.Standing.{addresses_stand}
 use Rattle.nl_spec_commits.specs.Committed.{read_as}
 use Rattle.nl_spec_commits.specs.DeviceLaws.{AddressesGo, Extends, HoldingOpens, LeavesHolding, NowHolds, PagesGo}
 use Rattle.nl_spec_commits.specs.Held.{IsHeldVolume}
 use Rattle.nl_spec_commits.specs.Standing.{IsFirm, ShowsPages}
-use Rattle.nl_spec_commits.specs.Trees.{OpensAs, Prefix, RunsAs, StandsAs, StandsFor, Trees}
+use Rattle.nl_spec_commits.specs.Trees.{StoredOpensAs, Prefix, RepresentsTree, RepresentsPrefix, RepresentsTrees, Trees}
 use Rattle.nl_spec_commits.proofs.Reading.{committed_reads, few_addresses}
 use Rattle.nl_spec_commits.proofs.Stopping.{held_alike, kept_lead, stands_alike}
 use Rattle.nl_spec_commits.proofs.Trees.{runs_alike, stands_as}
@@ -47,16 +47,16 @@ use Rattle.nl_spec_commits.proofs.Trees.{runs_alike, stands_as}
 -- ---- the addresses stay
 
 module _ {D : Type 0} (g : Ghosts D) (s t : D) (p : Progress) (pages : Pages) (count : ℕ) (page_of_stamp : ℕ → Option PageOfStamp) (x : Trees) (volume : IsVolumeShape (g.shape s)) (tells : g.tells)
-    (numbers : HasNumber p (length pages.frozen.addresses)) (j : IsJournaled g s p pages) (k : KeepsVirtual g s t) (at : StandsFor g s p pages count page_of_stamp x) where
+    (numbers : HasNumber p (length pages.frozen.addresses)) (j : IsJournaled g s p pages) (k : KeepsVirtual g s t) (at : RepresentsTrees g s p pages count page_of_stamp x) where
   same_committed : Agrees (g.shape s).vaddrs (committed_on g t) (committed_on g s)
   same_committed = (stays g s t p pages.frozen volume j.order k).1 tells numbers
 
-  on_t : (a b : VirtualMap) (y : Prefix) → Agrees (g.shape s).vaddrs b a → StandsAs (g.shape s) a page_of_stamp y → StandsAs (g.shape t) b page_of_stamp y
-  on_t a b y alike m = subst (λ (h : Shape). StandsAs h b page_of_stamp y) (sym k.same_shape) (stands_as (g.shape s) a b page_of_stamp y alike m)
+  on_t : (a b : VirtualMap) (y : Prefix) → Agrees (g.shape s).vaddrs b a → RepresentsPrefix (g.shape s) a page_of_stamp y → RepresentsPrefix (g.shape t) b page_of_stamp y
+  on_t a b y alike m = subst (λ (h : Shape). RepresentsPrefix h b page_of_stamp y) (sym k.same_shape) (stands_as (g.shape s) a b page_of_stamp y alike m)
 
-  pub addresses_on : StandsFor g t p pages count page_of_stamp x
+  pub addresses_on : RepresentsTrees g t p pages count page_of_stamp x
   addresses_on = record {
-    running = subst (λ (h : Shape). RunsAs h (running_on g t pages) page_of_stamp x.running) (sym k.same_shape)
+    running = subst (λ (h : Shape). RepresentsTree h (running_on g t pages) page_of_stamp x.running) (sym k.same_shape)
         (runs_alike (g.shape s) (running_on g s pages) (running_on g t pages) page_of_stamp x.running (addresses_stand g s t p pages volume j k).needed at.running);
     committed = on_t (committed_on g s) (committed_on g t) x.committed same_committed at.committed;
     frozen = λ more. on_t (finished_on g s p pages) (finished_on g t p pages) x.frozen
@@ -72,7 +72,7 @@ addresses_go g s t p pages count page_of_stamp x volume tells numbers j k at = a
 -- ---- further pages
 
 module _ (shape : Shape) (pages : VirtualMap) (old new : ℕ → Option PageOfStamp) (extends : Extends old new) where
-  there_still : (h : Held) → IsThere old h → IsThere new h
+  there_still : (h : Held) → PointerIsThere old h → PointerIsThere new h
   there_still h t = record { bytes = t.bytes; holds = extends h.pointer.stamp (record { tag = h.tag; bytes = t.bytes }) t.holds; whole = t.whole; behind = t.behind }
 
   right_still : RightFor shape pages old → RightFor shape pages new
@@ -100,10 +100,10 @@ module _ (shape : Shape) (pages : VirtualMap) (old new : ℕ → Option PageOfSt
   represents_still : (tree : Tree) → RightFor shape pages old → PagesRepresent shape pages old tree → PagesRepresent shape pages new tree
   represents_still tree m r = record { is_tree = r.is_tree; depicts = represents_same (bytes_for old) (bytes_for new) shape pages (same_bytes m) tree r.depicts }
 
-  pub runs_still : (tree : Tree) → RunsAs shape pages old tree → RunsAs shape pages new tree
+  pub runs_still : (tree : Tree) → RepresentsTree shape pages old tree → RepresentsTree shape pages new tree
   runs_still tree m = record { right = right_still m.right; represents = represents_still tree m.right m.represents; data_fits = m.data_fits }
 
-  pub stands_still : (count : ℕ) (tree : Tree) → MapStands shape pages old count tree → MapStands shape pages new count tree
+  pub stands_still : (count : ℕ) (tree : Tree) → MapRepresents shape pages old count tree → MapRepresents shape pages new count tree
   stands_still count tree m = record {
     super_rec = m.super_rec;
     numbers = m.numbers;
@@ -181,7 +181,7 @@ now_holds g s page_of_stamp firm shows = record {
   agree = firm.agree;
   moved = g.names s;
   contents = g.bytes s;
-  keeps = λ v is. subst (λ n. Keeps v (record v { names = n })) is (record { holds = λ h. h; committed = λ h k. k });
+  keeps = λ v is. subst (λ n. PreservesHolding v (record v { names = n })) is (record { holds = λ h. h; committed = λ h k. k });
   shows = shows;
   pages = firm.pages.pages;
 }

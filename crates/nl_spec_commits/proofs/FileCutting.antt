@@ -14,7 +14,7 @@ use Rattle.nl_meta.specs.Nodes.{graph_of, pointer_at}
 use Rattle.nl_meta.specs.PointerLists.{shown, tagged_by, tagged_in}
 use Rattle.nl_meta_running.specs.Running.{running_on}
 use Rattle.nl_spec_commits.specs.Changes.{GainsEach, LosesEach, ReplacesSome, given_up}
-use Rattle.nl_spec_commits.specs.FileCuts.{CutsFile, EmptyingKeepsHeld, PartingKeepsHeld, TruncatingKeepsHeld, pointers_behind}
+use Rattle.nl_spec_commits.specs.FileCuts.{CutsFilePointers, EmptyingKeepsHeld, PartingKeepsHeld, TruncatingKeepsHeld, pointers_behind}
 use Rattle.nl_spec_commits.specs.Held.{IsHeldVolume}
 use Rattle.nl_spec_commits.proofs.FileLists.{Around, all_length, all_of, at_place, behind_is, file_there, node_changes, none_there, one_more, plain_there, split, there}
 use Rattle.nl_spec_commits.proofs.Losing.{runs_of_lists}
@@ -36,7 +36,7 @@ take_same (suc k) (x ∷ xs) (y ∷ ys) len same = λ j. same 0 (omega arith) j 
 parted : {X : Type 0} (f a b e : List X) → f ++ (a ++ b) ++ e ≡ f ++ a ++ b ++ e
 parted f a b e = ap (λ l. l ++ e) (sym (append_assoc f a b))
 
-module _ (shape : Shape) (old new : VirtualMap) (n index : ℕ) (was is : InodeRec) (c : CutsFile shape old new n index was is) where
+module _ (shape : Shape) (old new : VirtualMap) (n index : ℕ) (was is : InodeRec) (c : CutsFilePointers shape old new n index was is) where
   abbrev xs : List Pointer
   xs = all_of old was
 

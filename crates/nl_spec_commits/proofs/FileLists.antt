@@ -14,7 +14,7 @@ use Rattle.nl_meta.specs.Committed.{VirtualMap}
 use Rattle.nl_meta.specs.Nodes.{body_of, graph_of, held_by, inode_at, node_from, pointer_at, pointers_at, pointers_of, pointers_of_inode}
 use Rattle.nl_meta.specs.PointerLists.{IsFile, shown, tagged_by, tagged_in, with_tag}
 use Rattle.nl_meta.proofs.SlotProofs.{at_index, pointers_length}
-use Rattle.nl_spec_commits.specs.FileCuts.{OthersStay, pointers_behind}
+use Rattle.nl_spec_commits.specs.FileCuts.{OtherNodesKeepPointers, pointers_behind}
 
 -- those of a list that are some
 abbrev pub some_of : List Pointer → List Pointer
@@ -159,7 +159,7 @@ module _ {X : Type 0} (f g : ℕ → List X) (n : ℕ) (same : (k : ℕ) → k �
           joined : (a b c d : List X) → a ++ (b ++ c ++ d) ≡ a ++ b ++ c ++ d
           joined a b c d = sym (append_assoc a (b ++ c) d) ∙ ap (λ l. l ++ d) (sym (append_assoc a b c))
 
-pub node_changes : (shape : Shape) (old new : VirtualMap) (n : ℕ) → n < shape.nodes → OthersStay shape old new n
+pub node_changes : (shape : Shape) (old new : VirtualMap) (n : ℕ) → n < shape.nodes → OtherNodesKeepPointers shape old new n
     → Around (tagged_by n (graph_of shape old n)) (tagged_by n (graph_of shape new n)) (tagged_in shape old) (tagged_in shape new)
 unfolding pointers_of
 node_changes shape old new n below others = record {

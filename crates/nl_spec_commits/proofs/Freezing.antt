@@ -15,13 +15,13 @@ use Rattle.nl_meta.specs.Pages.{Frozen, IsPages, Pages, dirty_pages}
 use Rattle.nl_meta.specs.Steps.{with_dirty}
 use Rattle.nl_meta_running.specs.Running.{running_on}
 use Rattle.nl_meta_running.proofs.Holds.{bounds-of}
-use Rattle.nl_journal_commit.specs.Completing.{IsOpen}
+use Rattle.nl_journal_commit.specs.Completing.{AwaitsCommitPage}
 use Rattle.nl_journal_commit.specs.Counting.{with_frozen}
-use Rattle.nl_journal_commit.specs.Standing.{CanFreeze, IsJournaled, StandsOn}
+use Rattle.nl_journal_commit.specs.Standing.{CanFreeze, IsJournaled, PreservesGraph}
 use Rattle.nl_journal_commit.proofs.CompletingSteps.{closed_number, closed_pages}
 use Rattle.nl_journal_commit.proofs.Standing.{freezing_stands, super_page_stands}
 use Rattle.nl_spec_commits.specs.Committed.{AreKept, IsHoldingOn, KeepsJournaled, read_as}
-use Rattle.nl_spec_commits.specs.CommittedLaws.{FreezingHolds, HoldsOn, SuperPageHolds}
+use Rattle.nl_spec_commits.specs.CommittedLaws.{FreezingHolds, PreservesHoldingInFlight, SuperPageHolds}
 use Rattle.nl_spec_commits.proofs.Ahead.{ahead_is_running}
 use Rattle.nl_spec_commits.proofs.Kept.{from_plain, plain_of, running_kept, tagged_same}
 
@@ -41,7 +41,7 @@ module _ (count : ℕ) (p : Progress) (pages : Pages) (can : CanFreeze count p p
   one_more numbers = let e = begun_now in let o = begun_before in omega (arith, numbers, e, o)
 
   -- its commit page is still to be written
-  pub freeze_opens : IsOpen p (dirty_pages pages)
+  pub freeze_opens : AwaitsCommitPage p (dirty_pages pages)
   freeze_opens = subst (λ (x : Phase). length pages.dirty < units_left x (length pages.dirty)) (sym can.header) (let e = header_units (length pages.dirty) can.dirty.pages.some in omega (arith, e))
 
 -- ---- the dirty pages are frozen
@@ -51,7 +51,7 @@ module _ {D : Type 0} (g : Ghosts D) (s : D) (p : Progress) (pages : Pages) (v :
   abbrev pub now : Pages
   now = with_frozen pages
 
-  stands : StandsOn g s pages s p now
+  stands : PreservesGraph g s pages s p now
   stands = freezing_stands g s p pages volume j held can
 
   module _ (tells : g.tells) (numbers : HasNumber p (length pages.frozen.addresses)) where
@@ -84,7 +84,7 @@ module _ {D : Type 0} (g : Ghosts D) (s : D) (p : Progress) (pages : Pages) (v :
         thawed = λ shut. absurd (shut (freeze_opens (g.shape s).vaddrs p pages can));
       }
 
-  pub freezing_holds : (w : Holding) × IsHoldingOn g s p (with_frozen pages) w × HoldsOn v w × (w.leaving ≡ length v.freeing)
+  pub freezing_holds : (w : Holding) × IsHoldingOn g s p (with_frozen pages) w × PreservesHoldingInFlight v w × (w.leaving ≡ length v.freeing)
   freezing_holds = (
     freezes,
     record { runs = record { names = is.runs.names; running = is.runs.running ∙ sym (tagged_same (g.shape s) (bounds-of (g.shape s) volume) (running_on g s pages) (running_on g s now) stands.needed) }; told = frozen_told },

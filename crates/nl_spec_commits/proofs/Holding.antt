@@ -18,14 +18,14 @@ use Rattle.nl_journal_commit.specs.Standing.{CanFreeze, IsJournaled}
 use Rattle.nl_journal_commit.proofs.CompletingSteps.{closed_by, closed_number}
 use Rattle.nl_journal_commit.proofs.Standing.{freezing_stands}
 use Rattle.nl_spec_commits.specs.Committed.{IsHoldingOn}
-use Rattle.nl_spec_commits.specs.CommittedLaws.{HoldsOn}
+use Rattle.nl_spec_commits.specs.CommittedLaws.{PreservesHoldingInFlight}
 use Rattle.nl_spec_commits.specs.Held.{AcknowledgedKeepsHeld, CommitHolds, CommitKeepsHeld, CommitsOn, FreedKeepsHeld, OpeningIsHeld, opened}
 use Rattle.nl_spec_commits.proofs.Completing.{completing_holds}
 use Rattle.nl_spec_commits.proofs.Freezing.{freeze_opens, freezing_holds, number_before}
 use Rattle.nl_spec_commits.proofs.Kept.{keeps_then, running_kept}
 use Rattle.nl_spec_commits.proofs.Settling.{acknowledges_hold, addresses_hold, frees_hold, none_due}
 
-holds_then : {u v w : Holding} → HoldsOn u v → HoldsOn v w → HoldsOn u w
+holds_then : {u v w : Holding} → PreservesHoldingInFlight u v → PreservesHoldingInFlight v w → PreservesHoldingInFlight u w
 holds_then a b = record { keeps = keeps_then a.keeps b.keeps; same_flight = b.same_flight ∙ a.same_flight; same_freeing = b.same_freeing ∙ a.same_freeing }
 
 module _ {D : Type 0} (g : Ghosts D) (answer : VirtualWrite) (s : D) (p : Progress) (pages : Pages) (v : Holding) (volume : IsVolumeShape (g.shape s)) (j : IsJournaled g s p pages) (is : IsHoldingOn g s p pages v) where

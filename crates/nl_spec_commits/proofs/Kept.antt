@@ -10,14 +10,14 @@ use Rattle.nl_iface.specs.Device.{IsVolumeShape}
 use Rattle.nl_iface.specs.Names.{Has}
 use Rattle.nl_iface.specs.declared.counts.Counts.{Ghosts}
 use Rattle.nl_spec_holders.specs.Holding.{Holding}
-use Rattle.nl_spec_holders.specs.Laws.{Keeps}
+use Rattle.nl_spec_holders.specs.Laws.{PreservesHolding}
 use Rattle.nl_journal.specs.Outcomes.{Agrees, IsHome}
 use Rattle.nl_meta.specs.Committed.{VirtualMap}
 use Rattle.nl_meta.specs.Nodes.{pointers_of}
 use Rattle.nl_meta.specs.Pages.{Pages}
 use Rattle.nl_meta.specs.PointerLists.{tagged_in, with_tag}
 use Rattle.nl_meta_running.specs.FileLaws.{IsRight}
-use Rattle.nl_meta_running.specs.Running.{IsNeeded, Runs, running_on}
+use Rattle.nl_meta_running.specs.Running.{IsNeeded, RunningIsRight, running_on}
 use Rattle.nl_meta_running.proofs.GraphStays.{graph-same}
 use Rattle.nl_meta_running.proofs.Holds.{bounds-of}
 use Rattle.nl_meta_running.proofs.SameNeeded.{addresses-right, entries-right, nodes-right}
@@ -25,7 +25,7 @@ use Rattle.nl_journal_commit.specs.Holding.{IsHoldingOf}
 use Rattle.nl_journal_commit.proofs.Places.{needed_home}
 use Rattle.nl_spec_commits.specs.Committed.{AreKept, read_as}
 
-pub keeps_then : {u v w : Holding} → Keeps u v → Keeps v w → Keeps u w
+pub keeps_then : {u v w : Holding} → PreservesHolding u v → PreservesHolding v w → PreservesHolding u w
 keeps_then a b = record { holds = λ h. b.holds (a.holds h); committed = λ h k. b.committed (a.holds h) (a.committed h k) }
 
 module _ (shape : Shape) (bounds : ShapeBounds shape) (old new : VirtualMap) (same : (v : ℕ) → IsNeeded shape old v → new v ≡ old v) where
@@ -68,7 +68,7 @@ to_plain (x ∷ xs) h (inl e) = inl (ap (λ (y : Tag × Pointer). y.1) e)
 to_plain (x ∷ xs) h (inr has) = inr (to_plain xs h has)
 
 -- pages that read as those that run are kept by the running metadata
-pub running_kept : {D : Type 0} (g : Ghosts D) (s : D) (pages : Pages) (v : Holding) (volume : IsVolumeShape (g.shape s)) → Runs g s pages → IsHoldingOf g s pages v → (ahead : VirtualMap)
+pub running_kept : {D : Type 0} (g : Ghosts D) (s : D) (pages : Pages) (v : Holding) (volume : IsVolumeShape (g.shape s)) → RunningIsRight g s pages → IsHoldingOf g s pages v → (ahead : VirtualMap)
     → ((u : ℕ) → IsHome (g.shape s).vaddrs u → read_as (g.shape s) ahead u ≡ running_on g s pages u) → AreKept (g.shape s) ahead (plain_of v.running)
 running_kept g s pages v volume runs is ahead same = kept_by (g.shape s) (bounds-of (g.shape s) volume) (running_on g s pages) ahead (plain_of v.running)
     (record { nodes = runs.nodes; addresses = runs.addresses; entries = runs.entries })

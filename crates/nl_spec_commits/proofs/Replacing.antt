@@ -11,7 +11,7 @@ use Rattle.nl_iface.specs.Holders.{tagged}
 use Rattle.nl_iface.specs.Names.{Names}
 use Rattle.nl_iface.specs.declared.counts.Counts.{Ghosts}
 use Rattle.nl_spec_holders.specs.Holding.{Holding}
-use Rattle.nl_spec_holders.specs.Laws.{Keeps}
+use Rattle.nl_spec_holders.specs.Laws.{PreservesHolding}
 use Rattle.nl_spec_holders.proofs.LawProofs.{cut_keeps, install_keeps}
 use Rattle.nl_journal.specs.Progress.{Progress}
 use Rattle.nl_meta.specs.Pages.{Pages}
@@ -30,25 +30,25 @@ use Rattle.nl_spec_commits.proofs.Steps.{step_keeps_held}
 
 -- ---- who holds pages
 
-keeps_all : (v : Holding) → Keeps v v
+keeps_all : (v : Holding) → PreservesHolding v v
 keeps_all v = record { holds = λ h. h; committed = λ h c. c }
 
 -- each page that leaves awaits its free
 cut_each : (gone : List (Tag × Pointer)) (v : Holding) (running : List (Tag × Pointer)) → LosesEach gone v.running running
-    → Keeps v (record v { running = running; freeing = v.freeing ++ map tagged gone })
+    → PreservesHolding v (record v { running = running; freeing = v.freeing ++ map tagged gone })
 cut_each [] v running same =
-    subst (λ (r : List (Tag × Pointer)). Keeps v (record v { running = r; freeing = v.freeing ++ [] })) (sym same)
-    (subst (λ (f : List Pointer). Keeps v (record v { freeing = f })) (sym (append-nil v.freeing)) (keeps_all v))
+    subst (λ (r : List (Tag × Pointer)). PreservesHolding v (record v { running = r; freeing = v.freeing ++ [] })) (sym same)
+    (subst (λ (f : List Pointer). PreservesHolding v (record v { freeing = f })) (sym (append-nil v.freeing)) (keeps_all v))
 cut_each (x ∷ gone) v running (mid, loses, rest) =
     keeps_then (cut_keeps v x mid loses)
-    (subst (λ (f : List Pointer). Keeps (record v { running = mid; freeing = v.freeing ++ x.1 ∷ [] }) (record v { running = running; freeing = f })) (append_assoc v.freeing (x.1 ∷ []) (map tagged gone))
+    (subst (λ (f : List Pointer). PreservesHolding (record v { running = mid; freeing = v.freeing ++ x.1 ∷ [] }) (record v { running = running; freeing = f })) (append_assoc v.freeing (x.1 ∷ []) (map tagged gone))
     (cut_each gone (record v { running = mid; freeing = v.freeing ++ x.1 ∷ [] }) running rest))
 
 -- each page that comes was in flight
 install_each : (come : List (Tag × Pointer)) (v : Holding) (running flight : List (Tag × Pointer)) → LosesEach come v.flight flight → GainsEach come v.running running
-    → Keeps v (record v { running = running; flight = flight })
+    → PreservesHolding v (record v { running = running; flight = flight })
 install_each [] v running flight none same =
-    subst (λ (r : List (Tag × Pointer)). Keeps v (record v { running = r; flight = flight })) (sym same) (subst (λ (f : List (Tag × Pointer)). Keeps v (record v { flight = f })) (sym none) (keeps_all v))
+    subst (λ (r : List (Tag × Pointer)). PreservesHolding v (record v { running = r; flight = flight })) (sym same) (subst (λ (f : List (Tag × Pointer)). PreservesHolding v (record v { flight = f })) (sym none) (keeps_all v))
 install_each (x ∷ come) v running flight (less, loses, fewer) (more, gains, others) =
     keeps_then (install_keeps v x more less loses gains) (install_each come (record v { running = more; flight = less }) running flight fewer others)
 
@@ -58,10 +58,10 @@ module _ {D : Type 0} (g : Ghosts D) (s t : D) (p : Progress) (pages now : Pages
     (h : IsHeldVolume g s p pages flight freeing) (reads : OnlyReads g s t) (same : now.frozen ≡ pages.frozen) where
   -- the names of the device stay
   meta_keeps_held : (later : List (Tag × Pointer)) (waiting : List Pointer)
-      → ((v : Holding) → Keeps (record v { running = running_holders g s pages; flight = flight; freeing = freeing }) (record v { running = running_holders g t now; flight = later; freeing = waiting }))
+      → ((v : Holding) → PreservesHolding (record v { running = running_holders g s pages; flight = flight; freeing = freeing }) (record v { running = running_holders g t now; flight = later; freeing = waiting }))
       → IsHeldVolume g t p now later waiting
   meta_keeps_held later waiting keeps = step_keeps_held g s t p pages now flight later freeing waiting volume j h reads.medium.virtual same
-      (λ v is. subst (λ (n : Names). Keeps (holding_with g s pages flight freeing v) (record v { names = n; running = running_holders g t now; flight = later; freeing = waiting }))
+      (λ v is. subst (λ (n : Names). PreservesHolding (holding_with g s pages flight freeing v) (record v { names = n; running = running_holders g t now; flight = later; freeing = waiting }))
       (sym reads.names) (keeps (record v { names = g.names s })))
 
 pub replacing_keeps_held : {D : Type 0} (g : Ghosts D) → ReplacingKeepsHeld g
@@ -96,7 +96,7 @@ installing_keeps_held g s t p pages now flight later freeing tag was to volume j
 
 pub names_keep_held : {D : Type 0} (g : Ghosts D) → NamesKeepHeld g
 names_keep_held g s t p pages now flight freeing volume j h reads same stay = meta_keeps_held g s t p pages now flight freeing volume j h reads same flight freeing
-    (λ v. subst (λ (r : List (Tag × Pointer)). Keeps (record v { running = running_holders g s pages; flight = flight; freeing = freeing }) (record v { running = r; flight = flight; freeing = freeing }))
+    (λ v. subst (λ (r : List (Tag × Pointer)). PreservesHolding (record v { running = running_holders g s pages; flight = flight; freeing = freeing }) (record v { running = r; flight = flight; freeing = freeing }))
     (sym stay) (keeps_all (record v { running = running_holders g s pages; flight = flight; freeing = freeing })))
 
 pub reading_keeps_held : {D : Type 0} (g : Ghosts D) → ReadingKeepsHeld g

@@ -10,7 +10,7 @@ use Rattle.nl_iface.specs.Moves.{Acknowledges}
 use Rattle.nl_iface.specs.Names.{Names}
 use Rattle.nl_iface.specs.declared.counts.Counts.{Ghosts}
 use Rattle.nl_spec_holders.specs.Holding.{Holding}
-use Rattle.nl_spec_holders.specs.Laws.{Keeps, OldNamesDiffer}
+use Rattle.nl_spec_holders.specs.Laws.{PreservesHolding, OldNamesDiffer}
 use Rattle.nl_spec_holders.proofs.LawProofs.{acknowledge_keeps}
 use Rattle.nl_spec_holders.proofs.Lists.{times_drop}
 use Rattle.nl_journal.specs.Committing.{committed_on, finished, finished_on}
@@ -23,7 +23,7 @@ use Rattle.nl_meta.specs.Pages.{Frozen, Pages}
 use Rattle.nl_meta.specs.PointerLists.{tagged_in}
 use Rattle.nl_meta_running.specs.Running.{running_on}
 use Rattle.nl_meta_running.proofs.Holds.{bounds-of}
-use Rattle.nl_journal_commit.specs.Completing.{IsOpen}
+use Rattle.nl_journal_commit.specs.Completing.{AwaitsCommitPage}
 use Rattle.nl_journal_commit.specs.Freeing.{FreesEach}
 use Rattle.nl_journal_commit.specs.Standing.{IsJournaled}
 use Rattle.nl_journal_commit.proofs.Frees.{freeing_keeps}
@@ -77,8 +77,8 @@ metadata_holds g s p pages now v flight freeing same is = record {
         number = q.number ∙ ap (λ (x : Frozen). begun p (length x.addresses)) (sym same);
         next = q.next ∙ ap (λ (x : Frozen). begun p (length x.addresses) + 1) (sym same);
         committed = q.committed;
-        frozen = λ more. subst (λ (x : Frozen). AreKept (g.shape s) (finished p.phase x (committed_on g s)) v.frozen) (sym same) (q.frozen (subst (λ (x : Frozen). IsOpen p x) same more));
-        thawed = λ shut. q.thawed (λ more. shut (subst (λ (x : Frozen). IsOpen p x) (sym same) more));
+        frozen = λ more. subst (λ (x : Frozen). AreKept (g.shape s) (finished p.phase x (committed_on g s)) v.frozen) (sym same) (q.frozen (subst (λ (x : Frozen). AwaitsCommitPage p x) same more));
+        thawed = λ shut. q.thawed (λ more. shut (subst (λ (x : Frozen). AwaitsCommitPage p x) (sym same) more));
       };
 }
 
@@ -89,7 +89,7 @@ frees_hold g s t p pages v front rest is shut differ first due frees = record {
   holds = λ h. let w = settled.holds (record { table = h.table; held = h.held }) in record { table = w.table; held = w.held };
   committed = λ told h c.
       let q = (is.told told.0 told.1).thawed shut in
-      let k : Keeps v (record v { names = g.names t; freeing = rest; due = 0 }) =
+      let k : PreservesHolding v (record v { names = g.names t; freeing = rest; due = 0 }) =
       freeing_keeps v front rest (g.names t) (record { first = first; due = due; thawed = q.0; none_leaves = q.1; differ = subst OldNamesDiffer (sym is.runs.names) differ }) frees_now in
       k.committed h c;
 }
@@ -98,7 +98,7 @@ frees_hold g s t p pages v front rest is shut differ first due frees = record {
     frees_now = subst (λ (n : Names). FreesEach front n (g.names t)) (sym is.runs.names) frees
 
     -- who holds pages does not depend on what is frozen
-    settled : Keeps (record v { frozen = []; leaving = 0 }) (record v { names = g.names t; frozen = []; leaving = 0; freeing = rest; due = 0 })
+    settled : PreservesHolding (record v { frozen = []; leaving = 0 }) (record v { names = g.names t; frozen = []; leaving = 0; freeing = rest; due = 0 })
     settled = freeing_keeps (record v { frozen = []; leaving = 0 }) front rest (g.names t)
         (record { first = first; due = due; thawed = refl; none_leaves = refl; differ = subst OldNamesDiffer (sym is.runs.names) differ }) frees_now
 
@@ -108,7 +108,7 @@ acknowledges_hold g s t p pages v upto is counts acks = record {
   committed = λ told h c.
       let q = (is.told told.0 told.1).decided in
       let below = counts told in
-      let k : Keeps v (record v { names = g.names t }) = acknowledge_keeps v (g.names t) upto (omega (arith, q, below)) acks_now in
+      let k : PreservesHolding v (record v { names = g.names t }) = acknowledge_keeps v (g.names t) upto (omega (arith, q, below)) acks_now in
       k.committed h c;
 }
   where
@@ -116,7 +116,7 @@ acknowledges_hold g s t p pages v upto is counts acks = record {
     acks_now = subst (λ (n : Names). Acknowledges upto n (g.names t)) (sym is.runs.names) acks
 
     -- nor on which transaction counts
-    any : Keeps (record v { decided = upto }) (record v { names = g.names t; decided = upto })
+    any : PreservesHolding (record v { decided = upto }) (record v { names = g.names t; decided = upto })
     any = acknowledge_keeps (record v { decided = upto }) (g.names t) upto (omega arith) acks_now
 
 -- ---- no page is due

@@ -8,7 +8,7 @@ use Rattle.nl_iface.specs.Holders.{tagged}
 use Rattle.nl_iface.specs.Names.{Names}
 use Rattle.nl_iface.specs.declared.counts.Counts.{Ghosts}
 use Rattle.nl_spec_holders.specs.Holding.{Holding, HoldsPages, KeepsCommitted}
-use Rattle.nl_spec_holders.specs.Laws.{Keeps}
+use Rattle.nl_spec_holders.specs.Laws.{PreservesHolding}
 use Rattle.nl_spec_holders.specs.Lists.{ListGains}
 use Rattle.nl_spec_holders.proofs.LawProofs.{copy_keeps, drop_keeps, erase_keeps, program_keeps}
 use Rattle.nl_journal.specs.Progress.{HasNumber, Progress, begun}
@@ -16,7 +16,7 @@ use Rattle.nl_meta.specs.Pages.{Frozen, Pages}
 use Rattle.nl_journal_commit.specs.Holding.{running_holders}
 use Rattle.nl_journal_commit.specs.Standing.{IsJournaled}
 use Rattle.nl_spec_commits.specs.Held.{IsHeldVolume}
-use Rattle.nl_spec_commits.specs.SettlingLaws.{IsTold}
+use Rattle.nl_spec_commits.specs.SettlingLaws.{JournalIsObservable}
 use Rattle.nl_spec_commits.specs.Steps.{CleaningKeepsHeld, CopyKeepsHeld, DropKeepsHeld, HandlingKeepsHeld, ProgramKeepsHeld, StepKeepsHeld, TablesKeepHeld, holding_with}
 use Rattle.nl_spec_commits.proofs.Settling.{addresses_hold, metadata_holds, running_same}
 
@@ -52,7 +52,7 @@ step_keeps_held g s t p pages now flight later freeing waiting volume j h k same
       none_due = h.none_due;
       holds = unnumbered (holding_with g t now later waiting v) b ((keeps (record v { number = b }) refl).holds (numbered w b holds));
       committed = λ told.
-          let before : IsTold g p pages = (told.0, subst (λ (x : Frozen). HasNumber p (length x.addresses)) same told.1) in
+          let before : JournalIsObservable g p pages = (told.0, subst (λ (x : Frozen). HasNumber p (length x.addresses)) same told.1) in
           (keeps v (h.is_of.told before.0 before.1).number).committed holds (subst KeepsCommitted is (h.committed before));
     }
 
@@ -64,9 +64,9 @@ handling_keeps_held g s t p pages now flight later freeing waiting transaction v
 
 module _ {D : Type 0} (g : Ghosts D) (s t : D) (p : Progress) (pages : Pages) (flight later : List (Tag × Pointer)) (freeing : List Pointer) (volume : IsVolumeShape (g.shape s)) (j : IsJournaled g s p pages)
     (h : IsHeldVolume g s p pages flight freeing) (k : KeepsVirtual g s t) where
-  device_keeps_held : ((v : Holding) → Keeps (record v { names = g.names s; flight = flight }) (record v { names = g.names t; flight = later })) → IsHeldVolume g t p pages later freeing
+  device_keeps_held : ((v : Holding) → PreservesHolding (record v { names = g.names s; flight = flight }) (record v { names = g.names t; flight = later })) → IsHeldVolume g t p pages later freeing
   device_keeps_held keeps = step_keeps_held g s t p pages pages flight later freeing freeing volume j h k refl
-      (λ v is. subst (λ (r : List (Tag × Pointer)). Keeps (holding_with g s pages flight freeing v) (record v { names = g.names t; running = r; flight = later; freeing = freeing }))
+      (λ v is. subst (λ (r : List (Tag × Pointer)). PreservesHolding (holding_with g s pages flight freeing v) (record v { names = g.names t; running = r; flight = later; freeing = freeing }))
       (sym (running_same g s t p pages h.holding volume j k h.is_of)) (keeps (record v { running = running_holders g s pages; freeing = freeing })))
 
 pub program_keeps_held : {D : Type 0} (g : Ghosts D) → ProgramKeepsHeld g

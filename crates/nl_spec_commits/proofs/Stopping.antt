@@ -18,10 +18,10 @@ use Rattle.nl_iface.specs.Names.{Has, LivePage, Names, led}
 use Rattle.nl_iface.specs.Stored.{NamedAgree, SameNamed, Stored}
 use Rattle.nl_iface.specs.declared.counts.Counts.{Ghosts}
 use Rattle.nl_journal.specs.Committing.{ahead_on, committed_on, finished_on}
-use Rattle.nl_journal.specs.Left.{Commits, LeavesRest}
+use Rattle.nl_journal.specs.Left.{StoresCommitted, LeavesRest}
 use Rattle.nl_journal.specs.Outcomes.{Agrees, IsHome}
 use Rattle.nl_meta.specs.Committed.{VirtualMap}
-use Rattle.nl_meta.specs.Consistent.{IsThere, PageOfStamp, PointersRight}
+use Rattle.nl_meta.specs.Consistent.{PointerIsThere, PageOfStamp, PointersRight}
 use Rattle.nl_meta.specs.Nodes.{Held, graph_of, held_in, pointers_of, super_of_pages}
 use Rattle.nl_meta.specs.PointerLists.{with_tag}
 use Rattle.nl_meta.proofs.Lists.{some_in}
@@ -29,21 +29,21 @@ use Rattle.nl_meta_running.proofs.GraphStays.{graph-same}
 use Rattle.nl_meta_running.proofs.Holds.{bounds-of}
 use Rattle.nl_meta_running.specs.FileLaws.{IsRight}
 use Rattle.nl_meta_running.specs.Running.{running_on}
-use Rattle.nl_spec_image.specs.LeftIsSound.{IsLiveFor, LeavesTree, MapStands, committed_in}
+use Rattle.nl_spec_image.specs.LeftIsSound.{IsLiveFor, LeavesTree, MapRepresents, committed_in}
 use Rattle.nl_spec_image.specs.Stands.{bytes_for}
 use Rattle.nl_journal_commit.proofs.Places.{needed_home}
 use Rattle.nl_spec_commits.specs.Committed.{AreKept, read_as}
-use Rattle.nl_spec_commits.specs.Standing.{HeldLead, IsFirm, LeavesStanding, RunningLead, ShowsPages, StandFor, StandsAlike, StopsStand}
+use Rattle.nl_spec_commits.specs.Standing.{HeldLead, IsFirm, LeavesRepresented, RunningLead, ShowsPages, RepresentsAndLeads, AgreeingRepresentSame, CrashStatesRepresent}
 use Rattle.nl_spec_commits.proofs.Ahead.{ahead_is_running}
 use Rattle.nl_spec_commits.proofs.Kept.{from_plain, plain_of, right_same, running_kept}
 use Rattle.nl_spec_commits.proofs.Reading.{committed_reads}
 
 -- ---- pages that agree stand for the same
 
-volume_of : {shape : Shape} {pages : VirtualMap} {page_of_stamp : ℕ → Option PageOfStamp} {count : ℕ} {tree : Tree} → MapStands shape pages page_of_stamp count tree → IsVolumeShape shape
+volume_of : {shape : Shape} {pages : VirtualMap} {page_of_stamp : ℕ → Option PageOfStamp} {count : ℕ} {tree : Tree} → MapRepresents shape pages page_of_stamp count tree → IsVolumeShape shape
 volume_of m = record { legal = m.right.legal; numbers = m.right.numbers }
 
-module _ (shape : Shape) (old new : VirtualMap) (page_of_stamp : ℕ → Option PageOfStamp) (count : ℕ) (tree : Tree) (alike : Agrees shape.vaddrs new old) (m : MapStands shape old page_of_stamp count tree) where
+module _ (shape : Shape) (old new : VirtualMap) (page_of_stamp : ℕ → Option PageOfStamp) (count : ℕ) (tree : Tree) (alike : Agrees shape.vaddrs new old) (m : MapRepresents shape old page_of_stamp count tree) where
   bounds : ShapeBounds shape
   bounds = bounds-of shape (volume_of m)
 
@@ -63,7 +63,7 @@ module _ (shape : Shape) (old new : VirtualMap) (page_of_stamp : ℕ → Option 
   unfolding super_of_pages
   super_alike = let all = bounds.addresses in ap (λ (o : Option (List ℕ)). option_and_then super_of o) (alike 0 (record { below = omega (arith, all); outside = inl refl }))
 
-  pub stands_new : MapStands shape new page_of_stamp count tree
+  pub stands_new : MapRepresents shape new page_of_stamp count tree
   stands_new = record {
     super_rec = m.super_rec;
     numbers = record { spelled = super_alike ∙ m.numbers.spelled; same_blocks = m.numbers.same_blocks; same_pages = m.numbers.same_pages; legal = m.numbers.legal };
@@ -75,14 +75,14 @@ module _ (shape : Shape) (old new : VirtualMap) (page_of_stamp : ℕ → Option 
         nodes = right_new.nodes;
         addresses = right_new.addresses;
         entries = right_new.entries;
-        pointers = subst (λ (hs : List Held). PointersRight hs (IsThere page_of_stamp)) (sym held_alike) m.right.tree.pointers;
+        pointers = subst (λ (hs : List Held). PointersRight hs (PointerIsThere page_of_stamp)) (sym held_alike) m.right.tree.pointers;
       };
     };
     represents = record { is_tree = m.represents.is_tree; depicts = subst (λ (x : Graph). Represents (bytes_for page_of_stamp) x tree) (sym graph_alike) m.represents.depicts };
     data_fits = m.data_fits;
   }
 
-pub stands_alike : StandsAlike
+pub stands_alike : AgreeingRepresentSame
 stands_alike shape old new page_of_stamp count tree alike m = stands_new shape old new page_of_stamp count tree alike m
 
 -- ---- the pointers of pages that are kept lead
@@ -100,7 +100,7 @@ live_with tag stamp = record { tag = tag; stamp = stamp }
 
 module _ (names : Names) (bytes : ℕ → List ℕ) (page_of_stamp : ℕ → Option PageOfStamp) (shows : ShowsPages names bytes page_of_stamp) (due : ℕ → Type 0) where
   -- a pointer that leads to a page of its stamp, where the page of that stamp has its tag
-  live_for : (h : Held) → IsRef names due (wants h.pointer) h.pointer.name → IsThere page_of_stamp h → IsLiveFor names bytes page_of_stamp h
+  live_for : (h : Held) → IsRef names due (wants h.pointer) h.pointer.name → PointerIsThere page_of_stamp h → IsLiveFor names bytes page_of_stamp h
   live_for h ref there =
       let page = ref.leads.0 in
       let stamp = ref.leads.2 in
@@ -114,7 +114,7 @@ module _ (names : Names) (bytes : ℕ → List ℕ) (page_of_stamp : ℕ → Opt
       }
 
   pub kept_lead : (shape : Shape) (pages : VirtualMap) (kept : List Pointer) (count : ℕ) (tree : Tree) → AreKept shape pages kept → ((p : Pointer) → Has kept p → IsRef names due (wants p) p.name)
-      → MapStands shape (read_as shape pages) page_of_stamp count tree → (h : Held) → members.Has (held_in shape (read_as shape pages)) h → IsLiveFor names bytes page_of_stamp h
+      → MapRepresents shape (read_as shape pages) page_of_stamp count tree → (h : Held) → members.Has (held_in shape (read_as shape pages)) h → IsLiveFor names bytes page_of_stamp h
   kept_lead shape pages kept count tree are refs m h has =
       live_for h (refs h.pointer (are.listed (h.tag, h.pointer) (tagged_has (held_in shape (read_as shape pages)) h has))) (m.right.tree.pointers.there h has)
 
@@ -153,7 +153,7 @@ running_lead g s p pages v page_of_stamp count tree tells numbers volume j held 
     reads : (u : ℕ) → IsHome (g.shape s).vaddrs u → read_as (g.shape s) (ahead_on g s p pages) u ≡ running_on g s pages u
     reads u home = ahead_is_running g s p pages j held dirty tells numbers u home
 
-    standing : MapStands (g.shape s) (read_as (g.shape s) (ahead_on g s p pages)) page_of_stamp count tree
+    standing : MapRepresents (g.shape s) (read_as (g.shape s) (ahead_on g s p pages)) page_of_stamp count tree
     standing = stands_new (g.shape s) (running_on g s pages) (read_as (g.shape s) (ahead_on g s p pages)) page_of_stamp count tree reads m
 
 -- ---- what a stop leaves
@@ -179,11 +179,11 @@ module _ (old c : Stored) (same : SameNamed old c) where
 
 module _ {D : Type 0} (g : Ghosts D) (s : D) (volume : IsVolumeShape (g.shape s)) (f : IsFirm g s) where
   -- what is stored has these committed pages
-  commits_alike : (a : VirtualMap) (c : Stored) → Commits (g.shape s) a c → Agrees (g.shape s).vaddrs (committed_in (g.shape s) c) (read_as (g.shape s) a)
+  commits_alike : (a : VirtualMap) (c : Stored) → StoresCommitted (g.shape s) a c → Agrees (g.shape s).vaddrs (committed_in (g.shape s) c) (read_as (g.shape s) a)
   commits_alike a c commits v home = committed_reads (g.shape s) c.virtual v volume home.below ∙ ap (λ (o : Option (List ℕ)). or_zeros (g.shape s) v o) (commits v home)
 
-  leaves_one : (a : VirtualMap) (page_of_stamp : ℕ → Option PageOfStamp) (c : Stored) (count : ℕ) (tree : Tree) → Commits (g.shape s) a c → LeavesRest (g.shape s).vaddrs (g.failed s) (stored g s) c
-      → StandFor g s a page_of_stamp count tree → LeavesTree (g.shape s) (g.names s) (g.bytes s) page_of_stamp c count tree
+  leaves_one : (a : VirtualMap) (page_of_stamp : ℕ → Option PageOfStamp) (c : Stored) (count : ℕ) (tree : Tree) → StoresCommitted (g.shape s) a c → LeavesRest (g.shape s).vaddrs (g.failed s) (stored g s) c
+      → RepresentsAndLeads g s a page_of_stamp count tree → LeavesTree (g.shape s) (g.names s) (g.bytes s) page_of_stamp c count tree
   leaves_one a page_of_stamp c count tree commits rest stand =
       let alike = commits_alike a c commits in
       record {
@@ -194,7 +194,7 @@ module _ {D : Type 0} (g : Ghosts D) (s : D) (volume : IsVolumeShape (g.shape s)
         lead = λ h has. stand.lead h (subst (λ (hs : List Held). members.Has hs h) (held_alike (g.shape s) (read_as (g.shape s) a) (committed_in (g.shape s) c) page_of_stamp count tree alike stand.map) has);
       }
 
-  pub leaves_standing : LeavesStanding g s
+  pub leaves_standing : LeavesRepresented g s
   leaves_standing = record {
     one = λ a page_of_stamp c count tree left stand. leaves_one a page_of_stamp c count tree left.0 left.1 stand;
     either = λ a b page_of_stamp c count after tree later left one other. ⊎_elim
@@ -205,5 +205,5 @@ module _ {D : Type 0} (g : Ghosts D) (s : D) (volume : IsVolumeShape (g.shape s)
         (λ more. inr (⊎_elim (λ commits. inl (leaves_one b page_of_stamp c after later commits left.1 other)) (λ commits. inr (leaves_one d page_of_stamp c last newest commits left.1 third)) more)) left.0;
   }
 
-pub stops_stand : {D : Type 0} (g : Ghosts D) → StopsStand g
+pub stops_stand : {D : Type 0} (g : Ghosts D) → CrashStatesRepresent g
 stops_stand g s volume f = leaves_standing g s volume f

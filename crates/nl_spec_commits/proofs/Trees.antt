@@ -26,25 +26,25 @@ use Rattle.nl_journal.specs.Transaction.{with_pages}
 use Rattle.nl_journal.proofs.CommitSteps.{begun_header}
 use Rattle.nl_journal.proofs.Finishing.{with_none, with_same}
 use Rattle.nl_meta.specs.Committed.{VirtualMap}
-use Rattle.nl_meta.specs.Consistent.{IsThere, PageOfStamp, PointersRight}
+use Rattle.nl_meta.specs.Consistent.{PointerIsThere, PageOfStamp, PointersRight}
 use Rattle.nl_meta.specs.Nodes.{Held, graph_of, held_in, pointers_of, super_of_pages}
 use Rattle.nl_meta.specs.Pages.{Frozen, IsPages, Pages, dirty_pages, page_of}
 use Rattle.nl_meta_running.specs.FileLaws.{IsRight}
 use Rattle.nl_meta_running.specs.Running.{IsNeeded, running_on}
 use Rattle.nl_meta_running.proofs.GraphStays.{graph-same}
 use Rattle.nl_meta_running.proofs.Holds.{bounds-of}
-use Rattle.nl_spec_image.specs.LeftIsSound.{MapStands}
+use Rattle.nl_spec_image.specs.LeftIsSound.{MapRepresents}
 use Rattle.nl_spec_image.proofs.FreshProofs.{limits}
 use Rattle.nl_spec_image.specs.Stands.{bytes_for}
-use Rattle.nl_journal_commit.specs.Completing.{Completes, IsDecided, IsOpen}
+use Rattle.nl_journal_commit.specs.Completing.{Completes, IsDecided, AwaitsCommitPage}
 use Rattle.nl_journal_commit.specs.Counting.{record_of, with_count, with_frozen}
 use Rattle.nl_journal_commit.specs.Standing.{CanFreeze, IsJournaled}
 use Rattle.nl_journal_commit.proofs.CompletingSteps.{closed_by, closed_pages}
 use Rattle.nl_journal_commit.proofs.PartSteps.{frozen_runs}
 use Rattle.nl_journal_commit.proofs.Standing.{super_page_stands}
 use Rattle.nl_spec_commits.specs.Committed.{read_as}
-use Rattle.nl_spec_commits.specs.TreeLaws.{CompletingGoes, FreezingGoes, SuperPageGoes, completed, frozen_now}
-use Rattle.nl_spec_commits.specs.Trees.{Prefix, RunsAs, StandsAs, StandsFor, Trees}
+use Rattle.nl_spec_commits.specs.TreeLaws.{CompletingPreservesTrees, FreezingPreservesTrees, SuperPagePreservesTrees, completed, frozen_now}
+use Rattle.nl_spec_commits.specs.Trees.{Prefix, RepresentsTree, RepresentsPrefix, RepresentsTrees, Trees}
 use Rattle.nl_spec_commits.proofs.Ahead.{ahead_is_running, runs_some}
 use Rattle.nl_spec_commits.proofs.Freezing.{freeze_opens}
 use Rattle.nl_spec_commits.proofs.Kept.{right_same}
@@ -52,7 +52,7 @@ use Rattle.nl_spec_commits.proofs.Stopping.{stands_alike}
 
 -- ---- pages that are the same where nodes need them
 
-module _ (shape : Shape) (old new : VirtualMap) (page_of_stamp : ℕ → Option PageOfStamp) (tree : Tree) (same : (v : ℕ) → IsNeeded shape old v → new v ≡ old v) (m : RunsAs shape old page_of_stamp tree) where
+module _ (shape : Shape) (old new : VirtualMap) (page_of_stamp : ℕ → Option PageOfStamp) (tree : Tree) (same : (v : ℕ) → IsNeeded shape old v → new v ≡ old v) (m : RepresentsTree shape old page_of_stamp tree) where
   bounds : ShapeBounds shape
   bounds = bounds-of shape (record { legal = m.right.legal; numbers = m.right.numbers })
 
@@ -62,7 +62,7 @@ module _ (shape : Shape) (old new : VirtualMap) (page_of_stamp : ℕ → Option 
   graph_alike : graph_of shape new ≡ graph_of shape old
   graph_alike = graph-same shape bounds old new same
 
-  pub runs_alike : RunsAs shape new page_of_stamp tree
+  pub runs_alike : RepresentsTree shape new page_of_stamp tree
   runs_alike =
       let right = right_same shape bounds old new same is_right in
       record {
@@ -73,7 +73,7 @@ module _ (shape : Shape) (old new : VirtualMap) (page_of_stamp : ℕ → Option 
             nodes = right.nodes;
             addresses = right.addresses;
             entries = right.entries;
-            pointers = subst (λ (hs : List Held). PointersRight hs (IsThere page_of_stamp)) (sym (ap (λ (x : Graph). pointers_of shape x) graph_alike)) m.right.tree.pointers;
+            pointers = subst (λ (hs : List Held). PointersRight hs (PointerIsThere page_of_stamp)) (sym (ap (λ (x : Graph). pointers_of shape x) graph_alike)) m.right.tree.pointers;
           };
         };
         represents = record { is_tree = m.represents.is_tree; depicts = subst (λ (x : Graph). Represents (bytes_for page_of_stamp) x tree) (sym graph_alike) m.represents.depicts };
@@ -81,7 +81,7 @@ module _ (shape : Shape) (old new : VirtualMap) (page_of_stamp : ℕ → Option 
       }
 
 -- committed pages that agree
-pub stands_as : (shape : Shape) (old new : VirtualMap) (page_of_stamp : ℕ → Option PageOfStamp) (x : Prefix) → Agrees shape.vaddrs new old → StandsAs shape old page_of_stamp x → StandsAs shape new page_of_stamp x
+pub stands_as : (shape : Shape) (old new : VirtualMap) (page_of_stamp : ℕ → Option PageOfStamp) (x : Prefix) → Agrees shape.vaddrs new old → RepresentsPrefix shape old page_of_stamp x → RepresentsPrefix shape new page_of_stamp x
 stands_as shape old new page_of_stamp x alike m =
     stands_alike shape (read_as shape old) (read_as shape new) page_of_stamp x.0 x.1 (λ v home. ap (λ (o : Option (List ℕ)). or_zeros shape v o) (alike v home)) m
 
@@ -100,18 +100,18 @@ open_in Commit number pages more small = raised_is number small
 open_in (Home i) number pages more small = absurd (let no : ⊥ = omega (arith, more) in no)
 
 -- a transaction whose commit page is to be written has the number behind the last one
-pub open_number : (p : Progress) (frozen : Frozen) → IsOpen p frozen → HasNumber p (length frozen.addresses) → begun p (length frozen.addresses) ≡ p.number + 1
+pub open_number : (p : Progress) (frozen : Frozen) → AwaitsCommitPage p frozen → HasNumber p (length frozen.addresses) → begun p (length frozen.addresses) ≡ p.number + 1
 open_number p frozen more small = open_in p.phase p.number (length frozen.addresses) more small
 
-pub is_open : (p : Progress) (frozen : Frozen) → IsOpen p frozen ⊎ (IsOpen p frozen → ⊥)
+pub is_open : (p : Progress) (frozen : Frozen) → AwaitsCommitPage p frozen ⊎ (AwaitsCommitPage p frozen → ⊥)
 is_open p frozen = ⊎_elim (λ more. inl more) (λ few. inr (λ more. omega (arith, few, more))) (cases_lt (length frozen.addresses) (units_left p.phase (length frozen.addresses)))
 
 -- ---- what is finished
 
-module _ {D : Type 0} (g : Ghosts D) (s : D) (p : Progress) (pages : Pages) (count : ℕ) (page_of_stamp : ℕ → Option PageOfStamp) (x : Trees) (j : IsJournaled g s p pages) (at : StandsFor g s p pages count page_of_stamp x) where
-  pub finished_stands : StandsAs (g.shape s) (finished_on g s p pages) page_of_stamp x.frozen
+module _ {D : Type 0} (g : Ghosts D) (s : D) (p : Progress) (pages : Pages) (count : ℕ) (page_of_stamp : ℕ → Option PageOfStamp) (x : Trees) (j : IsJournaled g s p pages) (at : RepresentsTrees g s p pages count page_of_stamp x) where
+  pub finished_stands : RepresentsPrefix (g.shape s) (finished_on g s p pages) page_of_stamp x.frozen
   finished_stands = ⊎_elim at.frozen
-      (λ shut. subst (λ (y : Prefix). StandsAs (g.shape s) (finished_on g s p pages) page_of_stamp y) (sym (at.thawed shut))
+      (λ shut. subst (λ (y : Prefix). RepresentsPrefix (g.shape s) (finished_on g s p pages) page_of_stamp y) (sym (at.thawed shut))
       (stands_as (g.shape s) (committed_on g s) (finished_on g s p pages) page_of_stamp x.committed
       (λ v home. sym (closed_pages p.phase pages.frozen (committed_on g s) (g.shape s).vaddrs
       (closed_by p.phase pages.frozen j.order.phase (⊎_elim (λ more. absurd (shut more)) (λ few. few) (cases_lt (length pages.frozen.addresses) (units_left p.phase (length pages.frozen.addresses))))) v home))
@@ -121,32 +121,32 @@ module _ {D : Type 0} (g : Ghosts D) (s : D) (p : Progress) (pages : Pages) (cou
 -- ---- a part of a commit
 
 module _ {D : Type 0} (g : Ghosts D) (done : Type 0) (s t : D) (p q : Progress) (pages now : Pages) (count : ℕ) (page_of_stamp : ℕ → Option PageOfStamp) (x : Trees) (volume : IsVolumeShape (g.shape s)) (tells : g.tells)
-    (numbers : HasNumber p (length pages.frozen.addresses)) (j : IsJournaled g s p pages) (c : Completes g done s p pages t q now) (at : StandsFor g s p pages count page_of_stamp x) where
+    (numbers : HasNumber p (length pages.frozen.addresses)) (j : IsJournaled g s p pages) (c : Completes g done s p pages t q now) (at : RepresentsTrees g s p pages count page_of_stamp x) where
   w : FinishWrites g done p q pages now s t
   w = c.writes tells numbers
 
   -- said of the device before
-  on_t : (a : VirtualMap) (y : Prefix) → StandsAs (g.shape s) a page_of_stamp y → StandsAs (g.shape t) a page_of_stamp y
-  on_t a y m = subst (λ (h : Shape). StandsAs h a page_of_stamp y) (sym c.same_shape) m
+  on_t : (a : VirtualMap) (y : Prefix) → RepresentsPrefix (g.shape s) a page_of_stamp y → RepresentsPrefix (g.shape t) a page_of_stamp y
+  on_t a y m = subst (λ (h : Shape). RepresentsPrefix h a page_of_stamp y) (sym c.same_shape) m
 
-  runs_then : RunsAs (g.shape t) (running_on g t now) page_of_stamp x.running
-  runs_then = subst (λ (h : Shape). RunsAs h (running_on g t now) page_of_stamp x.running) (sym c.same_shape)
+  runs_then : RepresentsTree (g.shape t) (running_on g t now) page_of_stamp x.running
+  runs_then = subst (λ (h : Shape). RepresentsTree h (running_on g t now) page_of_stamp x.running) (sym c.same_shape)
       (runs_alike (g.shape s) (running_on g s pages) (running_on g t now) page_of_stamp x.running c.stands.needed at.running)
 
-  fin : StandsAs (g.shape s) (finished_on g s p pages) page_of_stamp x.frozen
+  fin : RepresentsPrefix (g.shape s) (finished_on g s p pages) page_of_stamp x.frozen
   fin = finished_stands g s p pages count page_of_stamp x j at
 
-  fin_then : StandsAs (g.shape t) (finished_on g t q now) page_of_stamp x.frozen
+  fin_then : RepresentsPrefix (g.shape t) (finished_on g t q now) page_of_stamp x.frozen
   fin_then = on_t (finished_on g t q now) x.frozen (stands_as (g.shape s) (finished_on g s p pages) (finished_on g t q now) page_of_stamp x.frozen w.same_finished fin)
 
-  by_finished : Agrees (g.shape s).vaddrs (committed_on g t) (finished_on g s p pages) → StandsAs (g.shape t) (committed_on g t) page_of_stamp x.frozen
+  by_finished : Agrees (g.shape s).vaddrs (committed_on g t) (finished_on g s p pages) → RepresentsPrefix (g.shape t) (committed_on g t) page_of_stamp x.frozen
   by_finished alike = on_t (committed_on g t) x.frozen (stands_as (g.shape s) (finished_on g s p pages) (committed_on g t) page_of_stamp x.frozen alike fin)
 
-  by_committed : Agrees (g.shape s).vaddrs (committed_on g t) (committed_on g s) → StandsAs (g.shape t) (committed_on g t) page_of_stamp x.committed
+  by_committed : Agrees (g.shape s).vaddrs (committed_on g t) (committed_on g s) → RepresentsPrefix (g.shape t) (committed_on g t) page_of_stamp x.committed
   by_committed alike = on_t (committed_on g t) x.committed (stands_as (g.shape s) (committed_on g s) (committed_on g t) page_of_stamp x.committed alike at.committed)
 
   -- where it stays open, its number is not the last one
-  undecided : (IsOpen p pages.frozen → IsOpen q now.frozen) → q.number ≡ begun p (length pages.frozen.addresses) → x.frozen ≡ x.committed
+  undecided : (AwaitsCommitPage p pages.frozen → AwaitsCommitPage q now.frozen) → q.number ≡ begun p (length pages.frozen.addresses) → x.frozen ≡ x.committed
   undecided stays number = ⊎_elim
       (λ more.
       let later = open_number q now.frozen (stays more) (subst (λ n. n < 9223372036854775808) (sym c.finishes.begun_stays) numbers) in
@@ -154,10 +154,10 @@ module _ {D : Type 0} (g : Ghosts D) (done : Type 0) (s t : D) (p q : Progress) 
       absurd (let no : ⊥ = omega (arith, later, same, number) in no))
       at.thawed (is_open p pages.frozen)
 
-  pub goes_on : (decided : Option ℕ) → IsDecided decided p q pages.frozen now.frozen → StandsFor g t q now count page_of_stamp (completed decided x)
+  pub goes_on : (decided : Option ℕ) → IsDecided decided p q pages.frozen now.frozen → RepresentsTrees g t q now count page_of_stamp (completed decided x)
   goes_on None stays = record {
     running = runs_then;
-    committed = ⊎_elim (λ one. by_committed one.1) (λ two. subst (λ (y : Prefix). StandsAs (g.shape t) (committed_on g t) page_of_stamp y) (undecided stays two.0) (by_finished two.1)) w.decided;
+    committed = ⊎_elim (λ one. by_committed one.1) (λ two. subst (λ (y : Prefix). RepresentsPrefix (g.shape t) (committed_on g t) page_of_stamp y) (undecided stays two.0) (by_finished two.1)) w.decided;
     frozen = λ more. fin_then;
     thawed = λ shut. at.thawed (λ more. shut (stays more));
     later = at.later;
@@ -178,12 +178,12 @@ module _ {D : Type 0} (g : Ghosts D) (done : Type 0) (s t : D) (p q : Progress) 
     latest = at.latest;
   }
 
-pub completing_goes : {D : Type 0} (g : Ghosts D) → CompletingGoes g
+pub completing_goes : {D : Type 0} (g : Ghosts D) → CompletingPreservesTrees g
 completing_goes g answer s t p q pages now count page_of_stamp x decided volume tells numbers j c is at = goes_on g (answer ≡ write.Done) s t p q pages now count page_of_stamp x volume tells numbers j c at decided is
 
 -- ---- the super page
 
-pub super_page_goes : {D : Type 0} (g : Ghosts D) → SuperPageGoes g
+pub super_page_goes : {D : Type 0} (g : Ghosts D) → SuperPagePreservesTrees g
 super_page_goes g s p pages shape stored count page_of_stamp x volume j at = record {
   running = runs_alike (g.shape s) (running_on g s pages) (running_on g s (with_count shape stored pages)) page_of_stamp x.running (super_page_stands g s p pages (super_bytes (record_of shape stored)) volume j).needed at.running;
   committed = at.committed;
@@ -202,7 +202,7 @@ super_spelled_of shape count legal small = super-spelled (record_of shape count)
 
 -- pages that run, with this count in the super page
 pub with_super : (shape : Shape) (pages : VirtualMap) (page_of_stamp : ℕ → Option PageOfStamp) (count : ℕ) (tree : Tree) → count < 2 ^ 63 → pages 0 ≡ Some (super_bytes (record_of shape count))
-    → RunsAs shape pages page_of_stamp tree → MapStands shape pages page_of_stamp count tree
+    → RepresentsTree shape pages page_of_stamp tree → MapRepresents shape pages page_of_stamp count tree
 unfolding super_of_pages
 with_super shape pages page_of_stamp count tree small there m = record {
   super_rec = record_of shape count;
@@ -220,8 +220,8 @@ with_super shape pages page_of_stamp count tree small there m = record {
 
 module _ {D : Type 0} (g : Ghosts D) (s : D) (p : Progress) (pages : Pages) (count : ℕ) (page_of_stamp : ℕ → Option PageOfStamp) (x : Trees) (volume : IsVolumeShape (g.shape s)) (tells : g.tells)
     (numbers : HasNumber p (length pages.frozen.addresses)) (j : IsJournaled g s p pages) (held : IsPages pages) (can : CanFreeze (g.shape s).vaddrs p pages)
-    (super_page : page_of pages 0 ≡ Some (super_bytes (record_of (g.shape s) count))) (small : count < 2 ^ 63) (at : StandsFor g s p pages count page_of_stamp x) where
-  ahead_stands : StandsAs (g.shape s) (ahead_on g s p pages) page_of_stamp (count, x.running)
+    (super_page : page_of pages 0 ≡ Some (super_bytes (record_of (g.shape s) count))) (small : count < 2 ^ 63) (at : RepresentsTrees g s p pages count page_of_stamp x) where
+  ahead_stands : RepresentsPrefix (g.shape s) (ahead_on g s p pages) page_of_stamp (count, x.running)
   ahead_stands = stands_alike (g.shape s) (running_on g s pages) (read_as (g.shape s) (ahead_on g s p pages)) page_of_stamp count x.running
       (λ v home. ahead_is_running g s p pages j held can.dirty tells numbers v home)
       (with_super (g.shape s) (running_on g s pages) page_of_stamp count x.running small (runs_some g s pages 0 (super_bytes (record_of (g.shape s) count)) super_page) at.running)
@@ -237,7 +237,7 @@ module _ {D : Type 0} (g : Ghosts D) (s : D) (p : Progress) (pages : Pages) (cou
       alike Commit is = absurd (let no : ⊥ = cc in no)
       alike (Home i) is = absurd (let no : ⊥ = cc in no)
 
-  pub freezes_on : StandsFor g s p (with_frozen pages) count page_of_stamp (frozen_now count x)
+  pub freezes_on : RepresentsTrees g s p (with_frozen pages) count page_of_stamp (frozen_now count x)
   freezes_on = record {
     running = runs_alike (g.shape s) (running_on g s pages) (running_on g s (with_frozen pages)) page_of_stamp x.running (λ v need. ap (λ (m : VirtualMap). m v) (frozen_runs g s pages)) at.running;
     committed = at.committed;
@@ -247,5 +247,5 @@ module _ {D : Type 0} (g : Ghosts D) (s : D) (p : Progress) (pages : Pages) (cou
     latest = omega arith;
   }
 
-pub freezing_goes : {D : Type 0} (g : Ghosts D) → FreezingGoes g
+pub freezing_goes : {D : Type 0} (g : Ghosts D) → FreezingPreservesTrees g
 freezing_goes g s p pages count page_of_stamp x volume tells numbers j held can super_page small at = freezes_on g s p pages count page_of_stamp x volume tells numbers j held can super_page small at

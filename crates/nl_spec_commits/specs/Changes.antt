@@ -12,7 +12,7 @@ use Rattle.nl_journal.specs.Progress.{Progress}
 use Rattle.nl_meta.specs.Pages.{Pages}
 use Rattle.nl_meta.specs.PointerLists.{OneChanges}
 use Rattle.nl_meta.specs.Steps.{with_dirty}
-use Rattle.nl_meta_running.specs.Running.{RunsOn}
+use Rattle.nl_meta_running.specs.Running.{PreservesRunning}
 use Rattle.nl_journal_commit.specs.Holding.{running_holders}
 use Rattle.nl_journal_commit.specs.Standing.{IsJournaled}
 use Rattle.nl_spec_commits.specs.Held.{IsHeldVolume}
@@ -84,7 +84,7 @@ abbrev pub ReadingKeepsHeld : {D : Type 0} → Ghosts D → Type 0
 ReadingKeepsHeld {D} g =
     (s t : D) (p : Progress) (pages now : Pages) (flight : List (Tag × Pointer)) (freeing : List Pointer) → IsVolumeShape (g.shape s)
     → IsJournaled g s p pages → IsHeldVolume g s p pages flight freeing
-    → RunsOn g s pages t now → IsHeldVolume g t p now flight freeing
+    → PreservesRunning g s pages t now → IsHeldVolume g t p now flight freeing
 
 -- The super page has other bytes, as where the count of calls is stored.
 abbrev pub SuperPageKeepsHeld : {D : Type 0} → Ghosts D → Type 0

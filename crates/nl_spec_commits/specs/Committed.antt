@@ -13,7 +13,7 @@ use Rattle.nl_meta.specs.Committed.{VirtualMap}
 use Rattle.nl_meta.specs.Pages.{Pages}
 use Rattle.nl_meta.specs.PointerLists.{tagged_in}
 use Rattle.nl_meta_running.specs.FileLaws.{IsRight}
-use Rattle.nl_journal_commit.specs.Completing.{IsOpen}
+use Rattle.nl_journal_commit.specs.Completing.{AwaitsCommitPage}
 use Rattle.nl_journal_commit.specs.Holding.{IsHoldingOf}
 
 -- what the addresses read as that have these pages: an inode page that was never written is zeros
@@ -32,9 +32,9 @@ pub record KeepsJournaled {D : Type 0} (g : Ghosts D) (s : D) (p : Progress) (pa
   pub number : v.number ≡ begun p (length pages.frozen.addresses)
   pub next : v.next ≡ begun p (length pages.frozen.addresses) + 1
   pub committed : AreKept (g.shape s) (committed_on g s) v.committed
-  pub frozen : IsOpen p pages.frozen → AreKept (g.shape s) (finished_on g s p pages) v.frozen
+  pub frozen : AwaitsCommitPage p pages.frozen → AreKept (g.shape s) (finished_on g s p pages) v.frozen
   -- where none is to be written, no page is held for one
-  pub thawed : (IsOpen p pages.frozen → ⊥) → (v.frozen ≡ []) × (v.leaving ≡ 0)
+  pub thawed : (AwaitsCommitPage p pages.frozen → ⊥) → (v.frozen ≡ []) × (v.leaving ≡ 0)
 
 -- The holding is that of the device and the metadata as it runs. Where the medium tells its contents and the numbers of transactions have
 -- not ended, it is that of the journal too.

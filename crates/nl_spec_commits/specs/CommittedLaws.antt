@@ -5,18 +5,18 @@ use Rattle.nl_field.specs.declared.answers.VirtualWrite.TheVariants as write
 use Rattle.nl_iface.specs.Device.{IsVolumeShape}
 use Rattle.nl_iface.specs.declared.counts.Counts.{Ghosts}
 use Rattle.nl_spec_holders.specs.Holding.{Holding}
-use Rattle.nl_spec_holders.specs.Laws.{Keeps}
+use Rattle.nl_spec_holders.specs.Laws.{PreservesHolding}
 use Rattle.nl_journal.specs.Progress.{Progress}
 use Rattle.nl_meta.specs.Pages.{IsPages, Pages}
 use Rattle.nl_meta.specs.Steps.{with_dirty}
-use Rattle.nl_journal_commit.specs.Completing.{Completes, IsOpen}
+use Rattle.nl_journal_commit.specs.Completing.{Completes, AwaitsCommitPage}
 use Rattle.nl_journal_commit.specs.Counting.{with_frozen}
 use Rattle.nl_journal_commit.specs.Standing.{CanFreeze, IsJournaled}
 use Rattle.nl_spec_commits.specs.Committed.{IsHoldingOn}
 
 -- Who held pages holds them on. The same pages are in flight, and the same await their free.
-pub record HoldsOn (v w : Holding) : Type 0 where
-  pub keeps : Keeps v w
+pub record PreservesHoldingInFlight (v w : Holding) : Type 0 where
+  pub keeps : PreservesHolding v w
   pub same_flight : w.flight ≡ v.flight
   pub same_freeing : w.freeing ≡ v.freeing
 
@@ -27,7 +27,7 @@ CompletingHolds {D} g =
     (answer : VirtualWrite) (s t : D) (p q : Progress) (pages now : Pages) (v : Holding) → IsVolumeShape (g.shape s)
     → IsHoldingOn g s p pages v → IsJournaled g s p pages
     → Completes g (answer ≡ write.Done) s p pages t q now
-    → (w : Holding) × IsHoldingOn g t q now w × HoldsOn v w × (IsOpen p pages.frozen → answer ≡ write.Done → w.due ≡ v.leaving)
+    → (w : Holding) × IsHoldingOn g t q now w × PreservesHoldingInFlight v w × (AwaitsCommitPage p pages.frozen → answer ≡ write.Done → w.due ≡ v.leaving)
 
 -- Once the dirty pages are frozen, their transaction keeps what the running metadata has, and gives up all that awaits its free.
 abbrev pub FreezingHolds : {D : Type 0} → Ghosts D → Type 0
@@ -35,7 +35,7 @@ FreezingHolds {D} g =
     (s : D) (p : Progress) (pages : Pages) (v : Holding) → IsVolumeShape (g.shape s) → IsHoldingOn g s p pages v → IsJournaled g s p pages
     → IsPages pages
     → CanFreeze (g.shape s).vaddrs p pages
-    → (w : Holding) × IsHoldingOn g s p (with_frozen pages) w × HoldsOn v w × (w.leaving ≡ length v.freeing)
+    → (w : Holding) × IsHoldingOn g s p (with_frozen pages) w × PreservesHoldingInFlight v w × (w.leaving ≡ length v.freeing)
 
 -- Another super page changes nothing of who holds live pages.
 abbrev pub SuperPageHolds : {D : Type 0} → Ghosts D → Type 0

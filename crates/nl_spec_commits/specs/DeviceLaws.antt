@@ -3,7 +3,7 @@ use Rattle.std.specs.Prelude.{◌≡◌, ℕ, List, length, Option, Some}
 use Rattle.nl_field.specs.declared.pointer.Pointer.{Pointer}
 use Rattle.nl_field.specs.declared.pointer.Tag.{Tag}
 use Rattle.nl_spec_holders.specs.Holding.{Holding}
-use Rattle.nl_spec_holders.specs.Laws.{Keeps}
+use Rattle.nl_spec_holders.specs.Laws.{PreservesHolding}
 use Rattle.nl_iface.specs.Calls.{KeepsVirtual, StoresMap, stored}
 use Rattle.nl_iface.specs.Device.{IsVolumeShape}
 use Rattle.nl_iface.specs.Left.{LeavesPages}
@@ -16,15 +16,15 @@ use Rattle.nl_meta.specs.Pages.{Pages}
 use Rattle.nl_journal_commit.specs.Standing.{IsJournaled}
 use Rattle.nl_spec_commits.specs.Held.{IsHeldVolume}
 use Rattle.nl_spec_commits.specs.Standing.{IsFirm, ShowsPages}
-use Rattle.nl_spec_commits.specs.Trees.{OpensAs, StandsFor, Trees}
+use Rattle.nl_spec_commits.specs.Trees.{StoredOpensAs, RepresentsTrees, Trees}
 
 -- A call that leaves the addresses as they were leaves the trees.
 abbrev pub AddressesGo : {D : Type 0} → Ghosts D → Type 0
 AddressesGo {D} g =
     (s t : D) (p : Progress) (pages : Pages) (count : ℕ) (page_of_stamp : ℕ → Option PageOfStamp) (x : Trees) → IsVolumeShape (g.shape s)
     → g.tells → HasNumber p (length pages.frozen.addresses)
-    → IsJournaled g s p pages → KeepsVirtual g s t → StandsFor g s p pages count page_of_stamp x
-    → StandsFor g t p pages count page_of_stamp x
+    → IsJournaled g s p pages → KeepsVirtual g s t → RepresentsTrees g s p pages count page_of_stamp x
+    → RepresentsTrees g t p pages count page_of_stamp x
 
 -- each page that a write sequence number has is still that page
 abbrev pub Extends : (ℕ → Option PageOfStamp) → (ℕ → Option PageOfStamp) → Type 0
@@ -34,7 +34,7 @@ Extends old new = (stamp : ℕ) (page : PageOfStamp) → old stamp ≡ Some page
 abbrev pub PagesGo : {D : Type 0} → Ghosts D → Type 0
 PagesGo {D} g =
     (s : D) (p : Progress) (pages : Pages) (count : ℕ) (old new : ℕ → Option PageOfStamp) (x : Trees) → Extends old new
-    → StandsFor g s p pages count old x → StandsFor g s p pages count new x
+    → RepresentsTrees g s p pages count old x → RepresentsTrees g s p pages count new x
 
 -- What a call of the device leaves: the addresses have what they had, and pages of one write sequence number are the same. The live pages
 -- are those of some names, some of which may have moved by then, and who held what they were of holds them on.
@@ -43,7 +43,7 @@ pub record LeavesHolding {D : Type 0} (g : Ghosts D) (s : D) (page_of_stamp : �
   pub agree : NamedAgree c
   pub moved : Names
   pub contents : ℕ → List ℕ
-  pub keeps : (v : Holding) → v.names ≡ g.names s → Keeps v (record v { names = moved })
+  pub keeps : (v : Holding) → v.names ≡ g.names s → PreservesHolding v (record v { names = moved })
   pub shows : ShowsPages moved contents page_of_stamp
   pub pages : LeavesPages (g.shape s) moved contents c
 
@@ -53,8 +53,8 @@ HoldingOpens {D} g =
     (s : D) (p : Progress) (pages : Pages) (count : ℕ) (page_of_stamp : ℕ → Option PageOfStamp) (x : Trees) (flight : List (Tag × Pointer))
     (freeing : List Pointer) (c : Stored) → IsVolumeShape (g.shape s) → g.tells
     → HasNumber p (length pages.frozen.addresses) → IsHeldVolume g s p pages flight freeing → IsFirm g s → StoresMap g s
-    → StandsFor g s p pages count page_of_stamp x → LeavesHolding g s page_of_stamp c
-    → OpensAs (g.shape s) c x.committed
+    → RepresentsTrees g s p pages count page_of_stamp x → LeavesHolding g s page_of_stamp c
+    → StoredOpensAs (g.shape s) c x.committed
 
 abbrev pub NowHolds : {D : Type 0} → Ghosts D → Type 0
 NowHolds {D} g =

@@ -26,17 +26,17 @@ abbrev pub pointers_behind : VirtualMap → InodeRec → ℕ → List Pointer
 pointers_behind pages rec from = filter (λ p. not (is_none_pointer p)) (map (pointer_at pages rec) (range_with_len from (4104 - from)))
 
 -- each node but this one has the pointers that it had
-abbrev pub OthersStay : Shape → VirtualMap → VirtualMap → ℕ → Type 0
-OthersStay shape old new n = (k : ℕ) → k ≢ n → tagged_by k (graph_of shape new k) ≡ tagged_by k (graph_of shape old k)
+abbrev pub OtherNodesKeepPointers : Shape → VirtualMap → VirtualMap → ℕ → Type 0
+OtherNodesKeepPointers shape old new n = (k : ℕ) → k ≢ n → tagged_by k (graph_of shape new k) ≡ tagged_by k (graph_of shape old k)
 
 -- Up to an index a file has the pointers that it had, and behind it none.
-pub record CutsFile (shape : Shape) (old new : VirtualMap) (n index : ℕ) (was is : InodeRec) : Type 0 where
+pub record CutsFilePointers (shape : Shape) (old new : VirtualMap) (n index : ℕ) (was is : InodeRec) : Type 0 where
   pub file_before : IsFile shape old n was
   pub file_after : IsFile shape new n is
   pub generation : is.generation ≡ was.generation
   pub kept : (i : ℕ) → i < index → pointer_at new is i ≡ pointer_at old was i
   pub gone : (i : ℕ) → index < i → pointer_at new is i ≡ no_pointer
-  pub others : OthersStay shape old new n
+  pub others : OtherNodesKeepPointers shape old new n
 
 -- A cut that leaves no pointer at the index leaves a volume held: those from there on await their free.
 abbrev pub TruncatingKeepsHeld : {D : Type 0} → Ghosts D → Type 0
@@ -44,7 +44,7 @@ TruncatingKeepsHeld {D} g =
     (s t : D) (p : Progress) (pages now : Pages) (flight : List (Tag × Pointer)) (freeing : List Pointer) (n index : ℕ) (was is : InodeRec)
     → IsVolumeShape (g.shape s) → IsJournaled g s p pages
     → IsHeldVolume g s p pages flight freeing → OnlyReads g s t → now.frozen ≡ pages.frozen
-    → CutsFile (g.shape s) (running_on g s pages) (running_on g t now) n index was is
+    → CutsFilePointers (g.shape s) (running_on g s pages) (running_on g t now) n index was is
     → pointer_at (running_on g t now) is index ≡ no_pointer
     → IsHeldVolume g t p now flight (freeing ++ pointers_behind (running_on g s pages) was index)
 
@@ -55,7 +55,7 @@ PartingKeepsHeld {D} g =
     (s t : D) (p : Progress) (pages now : Pages) (flight later : List (Tag × Pointer)) (freeing : List Pointer) (n index : ℕ)
     (was is : InodeRec) → IsVolumeShape (g.shape s) → IsJournaled g s p pages
     → IsHeldVolume g s p pages flight freeing → OnlyReads g s t → now.frozen ≡ pages.frozen
-    → CutsFile (g.shape s) (running_on g s pages) (running_on g t now) n index was is
+    → CutsFilePointers (g.shape s) (running_on g s pages) (running_on g t now) n index was is
     → is_none_pointer (pointer_at (running_on g t now) is index) ≡ false
     → ListLoses tagged
     (record { ino = n; generation = was.generation; index = index }, pointer_at (running_on g t now) is index) flight later
@@ -69,5 +69,5 @@ EmptyingKeepsHeld {D} g =
     → IsVolumeShape (g.shape s) → IsJournaled g s p pages
     → IsHeldVolume g s p pages flight freeing → OnlyReads g s t → now.frozen ≡ pages.frozen
     → IsFile (g.shape s) (running_on g s pages) n was
-    → tagged_by n (graph_of (g.shape s) (running_on g t now) n) ≡ [] → OthersStay (g.shape s) (running_on g s pages) (running_on g t now) n
+    → tagged_by n (graph_of (g.shape s) (running_on g t now) n) ≡ [] → OtherNodesKeepPointers (g.shape s) (running_on g s pages) (running_on g t now) n
     → IsHeldVolume g t p now flight (freeing ++ pointers_behind (running_on g s pages) was 0)

@@ -8,7 +8,7 @@ use Rattle.nl_iface.specs.Calls.{KeepsMedium, KeepsVirtual, LeavesNew, NoWriteFa
 use Rattle.nl_iface.specs.Stored.{NamedAgree, SameVirtual}
 use Rattle.nl_iface.specs.declared.counts.Counts.{Ghosts}
 use Rattle.nl_journal.specs.Left.{CommitWrites}
-use Rattle.nl_journal.specs.Passes.{Passes}
+use Rattle.nl_journal.specs.Passes.{ChangesAddressesOnly}
 use Rattle.nl_journal.specs.Progress.{Progress}
 use Rattle.nl_meta.specs.Pages.{Pages}
 use Rattle.nl_spec_commits.specs.Standing.{IsFirm}
@@ -35,4 +35,4 @@ abbrev pub CommitKeepsFirm : {D : Type 0} → Ghosts D → Type 0
 CommitKeepsFirm {D} g =
     (answer : VirtualWrite) (most : ℕ) (s t : D) (p r : Progress) (pages now : Pages) → g.tells → IsFirm g s
     → CommitWrites g (answer ≡ write.Done) p r pages now s t
-    → Passes g (answer ≡ write.Done) most s t → (answer ≡ write.Done) ⊎ NoWriteFailed g s t → StoresPages g t → IsFirm g t
+    → ChangesAddressesOnly g (answer ≡ write.Done) most s t → (answer ≡ write.Done) ⊎ NoWriteFailed g s t → StoresPages g t → IsFirm g t

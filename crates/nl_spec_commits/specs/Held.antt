@@ -7,24 +7,24 @@ use Rattle.nl_field.specs.declared.pointer.Tag.{Tag}
 use Rattle.nl_iface.specs.Calls.{KeepsMedium}
 use Rattle.nl_iface.specs.Device.{IsVolumeShape}
 use Rattle.nl_iface.specs.Moves.{Acknowledges, Retains}
-use Rattle.nl_iface.specs.Names.{IsTable, LivePage}
+use Rattle.nl_iface.specs.Names.{IsTableOfNames, LivePage}
 use Rattle.nl_iface.specs.declared.counts.Counts.{Ghosts}
 use Rattle.nl_spec_holders.specs.Holding.{Holding, HoldsPages, KeepsCommitted}
 use Rattle.nl_spec_holders.specs.Laws.{OldNamesDiffer}
-use Rattle.nl_spec_holders.specs.Opening.{Opens}
+use Rattle.nl_spec_holders.specs.Opening.{OpensHolding}
 use Rattle.nl_journal.specs.Committing.{committed_on}
 use Rattle.nl_journal.specs.Outcomes.{IsHome}
 use Rattle.nl_journal.specs.Progress.{HasNumber, Progress}
 use Rattle.nl_meta.specs.Pages.{Pages}
 use Rattle.nl_meta_running.specs.Running.{running_on}
-use Rattle.nl_journal_commit.specs.Completing.{IsOpen}
+use Rattle.nl_journal_commit.specs.Completing.{AwaitsCommitPage}
 use Rattle.nl_journal_commit.specs.Committing.{CommitsInParts}
 use Rattle.nl_journal_commit.specs.Freeing.{FreesEach}
 use Rattle.nl_journal_commit.specs.Holding.{running_holders}
 use Rattle.nl_journal_commit.specs.Standing.{IsJournaled}
 use Rattle.nl_spec_commits.specs.Committed.{IsHoldingOn, read_as}
-use Rattle.nl_spec_commits.specs.CommittedLaws.{HoldsOn}
-use Rattle.nl_spec_commits.specs.SettlingLaws.{IsTold}
+use Rattle.nl_spec_commits.specs.CommittedLaws.{PreservesHoldingInFlight}
+use Rattle.nl_spec_commits.specs.SettlingLaws.{JournalIsObservable}
 
 -- Each live page is held once: by the running metadata, in flight, or while it awaits its free. Where the medium tells its contents and
 -- the numbers of transactions have not ended, what is committed and what is frozen keep their pages. None is due.
@@ -36,13 +36,13 @@ pub record IsHeldVolume {D : Type 0} (g : Ghosts D) (s : D) (p : Progress) (page
   pub awaits : holding.freeing ≡ freeing
   pub none_due : holding.due ≡ 0
   pub holds : HoldsPages holding
-  pub committed : IsTold g p pages → KeepsCommitted holding
+  pub committed : JournalIsObservable g p pages → KeepsCommitted holding
 
 -- A commit, done or not, holds pages on; once it is done, all are due that await their free.
 pub record CommitsOn {D : Type 0} (g : Ghosts D) (done : Type 0) (p : Progress) (pages : Pages) (t : D) (r : Progress) (now : Pages)
     (v w : Holding) : Type 0 where
   pub is_of : IsHoldingOn g t r now w
-  pub holds : HoldsOn v w
+  pub holds : PreservesHoldingInFlight v w
   pub due : done → w.due ≡ length v.freeing
   pub numbers : HasNumber r (length now.frozen.addresses) → HasNumber p (length pages.frozen.addresses)
 
@@ -67,7 +67,7 @@ FreedKeepsHeld {D} g =
     (answer : VirtualWrite) (earlier decided : Option ℕ) (s t u : D) (p r : Progress) (pages now : Pages) (flight : List (Tag × Pointer))
     (freeing : List Pointer) → IsVolumeShape (g.shape s) → IsJournaled g s p pages → IsHeldVolume g s p pages flight freeing
     → CommitsInParts g (answer ≡ write.Done) earlier decided s p pages t r now → answer ≡ write.Done → IsVolumeShape (g.shape t)
-    → IsJournaled g t r now → (IsOpen r now.frozen → ⊥) → OldNamesDiffer (g.names t) → KeepsMedium g t u
+    → IsJournaled g t r now → (AwaitsCommitPage r now.frozen → ⊥) → OldNamesDiffer (g.names t) → KeepsMedium g t u
     → FreesEach freeing (g.names t) (g.names u) → IsHeldVolume g u r now flight []
 
 -- A volume stays held where callbacks are acknowledged that transactions handled which count.
@@ -75,7 +75,7 @@ abbrev pub AcknowledgedKeepsHeld : {D : Type 0} → Ghosts D → Type 0
 AcknowledgedKeepsHeld {D} g =
     (s t : D) (p : Progress) (pages : Pages) (flight : List (Tag × Pointer)) (freeing : List Pointer) (upto : ℕ) → IsVolumeShape (g.shape s)
     → IsJournaled g s p pages → IsHeldVolume g s p pages flight freeing
-    → KeepsMedium g s t → (IsTold g p pages → upto ≤ p.number) → Acknowledges upto (g.names s) (g.names t)
+    → KeepsMedium g s t → (JournalIsObservable g p pages → upto ≤ p.number) → Acknowledges upto (g.names s) (g.names t)
     → IsHeldVolume g t p pages flight freeing
 
 -- who holds pages of a volume that was opened: nothing but its metadata, which is the committed one
@@ -99,6 +99,6 @@ abbrev pub OpeningIsHeld : {D : Type 0} → Ghosts D → Type 0
 OpeningIsHeld {D} g =
     (s : D) (p : Progress) (pages : Pages) (kept : List Pointer) (place : Pointer → ℕ) (found : List (ℕ × LivePage))
     → IsVolumeShape (g.shape s) → IsJournaled g s p pages
-    → (IsOpen p pages.frozen → ⊥)
+    → (AwaitsCommitPage p pages.frozen → ⊥)
     → (g.tells → (v : ℕ) → IsHome (g.shape s).vaddrs v → read_as (g.shape s) (committed_on g s) v ≡ running_on g s pages v)
-    → IsTable (g.names s) → Retains kept place found (g.names s) → Opens kept (opened g s p pages) → IsHeldVolume g s p pages [] []
+    → IsTableOfNames (g.names s) → Retains kept place found (g.names s) → OpensHolding kept (opened g s p pages) → IsHeldVolume g s p pages [] []

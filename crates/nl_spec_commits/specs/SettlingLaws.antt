@@ -8,25 +8,25 @@ use Rattle.nl_iface.specs.Device.{IsVolumeShape}
 use Rattle.nl_iface.specs.Moves.{Acknowledges}
 use Rattle.nl_iface.specs.declared.counts.Counts.{Ghosts}
 use Rattle.nl_spec_holders.specs.Holding.{Holding, HoldsPages, KeepsCommitted}
-use Rattle.nl_spec_holders.specs.Laws.{Keeps, OldNamesDiffer}
+use Rattle.nl_spec_holders.specs.Laws.{PreservesHolding, OldNamesDiffer}
 use Rattle.nl_journal.specs.Progress.{HasNumber, Progress}
 use Rattle.nl_meta.specs.Pages.{Pages}
-use Rattle.nl_meta.specs.Steps.{ChangesPages}
-use Rattle.nl_meta_running.specs.Running.{Runs}
-use Rattle.nl_journal_commit.specs.Completing.{IsOpen}
+use Rattle.nl_meta.specs.Steps.{ChangesRunningPages}
+use Rattle.nl_meta_running.specs.Running.{RunningIsRight}
+use Rattle.nl_journal_commit.specs.Completing.{AwaitsCommitPage}
 use Rattle.nl_journal_commit.specs.Freeing.{FreesEach}
 use Rattle.nl_journal_commit.specs.Holding.{running_holders}
 use Rattle.nl_journal_commit.specs.Standing.{IsJournaled}
 use Rattle.nl_spec_commits.specs.Committed.{IsHoldingOn}
 
 -- Live pages are held afterwards as they were, and where the medium tells its contents, what is committed keeps its own.
-pub record GoesOn (told : Type 0) (v w : Holding) : Type 0 where
+pub record PreservesHoldingAsTold (told : Type 0) (v w : Holding) : Type 0 where
   pub holds : HoldsPages v → HoldsPages w
   pub committed : told → HoldsPages v → KeepsCommitted v → KeepsCommitted w
 
 -- the medium tells its contents, and the numbers of transactions have not ended
-abbrev pub IsTold : {D : Type 0} → Ghosts D → Progress → Pages → Type 0
-IsTold g p pages = g.tells × HasNumber p (length pages.frozen.addresses)
+abbrev pub JournalIsObservable : {D : Type 0} → Ghosts D → Progress → Pages → Type 0
+JournalIsObservable g p pages = g.tells × HasNumber p (length pages.frozen.addresses)
 
 -- A call that leaves the addresses as they were leaves what is committed and what is frozen, whoever else holds pages then.
 abbrev pub AddressesHold : {D : Type 0} → Ghosts D → Type 0
@@ -38,13 +38,13 @@ AddressesHold {D} g =
 -- Where the metadata changes, and no frozen page, and it runs then, it is journaled as before.
 abbrev pub ChangesJournaled : {D : Type 0} → Ghosts D → Type 0
 ChangesJournaled {D} g =
-    (s : D) (p : Progress) (pages now : Pages) → IsJournaled g s p pages → ChangesPages pages now → Runs g s now → IsJournaled g s p now
+    (s : D) (p : Progress) (pages now : Pages) → IsJournaled g s p pages → ChangesRunningPages pages now → RunningIsRight g s now → IsJournaled g s p now
 
 -- The metadata is journaled as before while the device leaves what its addresses have, as one that is only read.
 abbrev pub StepsJournaled : {D : Type 0} → Ghosts D → Type 0
 StepsJournaled {D} g =
     (s t : D) (p : Progress) (pages now : Pages) → IsVolumeShape (g.shape s) → IsJournaled g s p pages → KeepsVirtual g s t
-    → ChangesPages pages now → Runs g t now → IsJournaled g t p now
+    → ChangesRunningPages pages now → RunningIsRight g t now → IsJournaled g t p now
 
 -- Where the metadata changes, and no frozen page, its pointers are those of the pages that run then.
 abbrev pub MetadataHolds : {D : Type 0} → Ghosts D → Type 0
@@ -57,17 +57,17 @@ MetadataHolds {D} g =
 abbrev pub FreesHold : {D : Type 0} → Ghosts D → Type 0
 FreesHold {D} g =
     (s t : D) (p : Progress) (pages : Pages) (v : Holding) (front rest : List Pointer) → IsHoldingOn g s p pages v
-    → (IsOpen p pages.frozen → ⊥) → OldNamesDiffer (g.names s)
+    → (AwaitsCommitPage p pages.frozen → ⊥) → OldNamesDiffer (g.names s)
     → v.freeing ≡ front ++ rest → v.due ≡ length front → FreesEach front (g.names s) (g.names t)
-    → GoesOn (IsTold g p pages) v (record v { names = g.names t; freeing = rest; due = 0 })
+    → PreservesHoldingAsTold (JournalIsObservable g p pages) v (record v { names = g.names t; freeing = rest; due = 0 })
 
 -- Callbacks are acknowledged that transactions handled which count.
 abbrev pub AcknowledgesHold : {D : Type 0} → Ghosts D → Type 0
 AcknowledgesHold {D} g =
-    (s t : D) (p : Progress) (pages : Pages) (v : Holding) (upto : ℕ) → IsHoldingOn g s p pages v → (IsTold g p pages → upto ≤ p.number)
+    (s t : D) (p : Progress) (pages : Pages) (v : Holding) (upto : ℕ) → IsHoldingOn g s p pages v → (JournalIsObservable g p pages → upto ≤ p.number)
     → Acknowledges upto (g.names s) (g.names t)
-    → GoesOn (IsTold g p pages) v (record v { names = g.names t })
+    → PreservesHoldingAsTold (JournalIsObservable g p pages) v (record v { names = g.names t })
 
 -- Where no page is due, and the frozen transaction gives up none, all is kept too.
 abbrev pub NoneDue : Type 0
-NoneDue = (v : Holding) → Keeps v (record v { due = 0; leaving = 0 })
+NoneDue = (v : Holding) → PreservesHolding v (record v { due = 0; leaving = 0 })

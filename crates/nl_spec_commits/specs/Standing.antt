@@ -20,8 +20,8 @@ use Rattle.nl_meta.specs.Consistent.{PageOfStamp}
 use Rattle.nl_meta.specs.Nodes.{Held, held_in}
 use Rattle.nl_meta.specs.Pages.{IsPages, Pages, dirty_pages}
 use Rattle.nl_meta_running.specs.Running.{running_on}
-use Rattle.nl_spec_image.specs.LeftIsSound.{IsLiveFor, LeavesTree, MapStands}
-use Rattle.nl_journal_commit.specs.Completing.{IsOpen}
+use Rattle.nl_spec_image.specs.LeftIsSound.{IsLiveFor, LeavesTree, MapRepresents}
+use Rattle.nl_journal_commit.specs.Completing.{AwaitsCommitPage}
 use Rattle.nl_journal_commit.specs.Holding.{IsHoldingOf}
 use Rattle.nl_journal_commit.specs.Standing.{IsJournaled}
 use Rattle.nl_spec_commits.specs.Committed.{IsHoldingOn, read_as}
@@ -40,16 +40,16 @@ AheadIsRunning {D} g =
     → (v : ℕ) → IsHome (g.shape s).vaddrs v → read_as (g.shape s) (ahead_on g s p pages) v ≡ running_on g s pages v
 
 -- Pages that agree stand for the same.
-abbrev pub StandsAlike : Type 0
-StandsAlike =
+abbrev pub AgreeingRepresentSame : Type 0
+AgreeingRepresentSame =
     (shape : Shape) (old new : VirtualMap) (page_of_stamp : ℕ → Option PageOfStamp) (count : ℕ) (tree : Tree) → Agrees shape.vaddrs new old
-    → MapStands shape old page_of_stamp count tree
-    → MapStands shape new page_of_stamp count tree
+    → MapRepresents shape old page_of_stamp count tree
+    → MapRepresents shape new page_of_stamp count tree
 
 -- The pages stand for this tree after so many calls, and each of their pointers leads to the live page of its stamp.
-pub record StandFor {D : Type 0} (g : Ghosts D) (s : D) (pages : VirtualMap) (page_of_stamp : ℕ → Option PageOfStamp) (count : ℕ)
+pub record RepresentsAndLeads {D : Type 0} (g : Ghosts D) (s : D) (pages : VirtualMap) (page_of_stamp : ℕ → Option PageOfStamp) (count : ℕ)
     (tree : Tree) : Type 0 where
-  pub map : MapStands (g.shape s) (read_as (g.shape s) pages) page_of_stamp count tree
+  pub map : MapRepresents (g.shape s) (read_as (g.shape s) pages) page_of_stamp count tree
   pub lead : (h : Held) → members.Has (held_in (g.shape s) (read_as (g.shape s) pages)) h
       → IsLiveFor (g.names s) (g.bytes s) page_of_stamp h
 
@@ -61,11 +61,11 @@ ShowsPages names bytes page_of_stamp =
 -- Where pages are held for what is committed and frozen, and these maps stand for trees, their pointers lead.
 pub record LeadsCommitted {D : Type 0} (g : Ghosts D) (s : D) (p : Progress) (pages : Pages)
     (page_of_stamp : ℕ → Option PageOfStamp) : Type 0 where
-  pub committed : (count : ℕ) (tree : Tree) → MapStands (g.shape s) (read_as (g.shape s) (committed_on g s)) page_of_stamp count tree
-      → StandFor g s (committed_on g s) page_of_stamp count tree
-  pub frozen : IsOpen p pages.frozen → (count : ℕ) (tree : Tree)
-      → MapStands (g.shape s) (read_as (g.shape s) (finished_on g s p pages)) page_of_stamp count tree
-      → StandFor g s (finished_on g s p pages) page_of_stamp count tree
+  pub committed : (count : ℕ) (tree : Tree) → MapRepresents (g.shape s) (read_as (g.shape s) (committed_on g s)) page_of_stamp count tree
+      → RepresentsAndLeads g s (committed_on g s) page_of_stamp count tree
+  pub frozen : AwaitsCommitPage p pages.frozen → (count : ℕ) (tree : Tree)
+      → MapRepresents (g.shape s) (read_as (g.shape s) (finished_on g s p pages)) page_of_stamp count tree
+      → RepresentsAndLeads g s (finished_on g s p pages) page_of_stamp count tree
 
 abbrev pub HeldLead : {D : Type 0} → Ghosts D → Type 0
 HeldLead {D} g =
@@ -80,8 +80,8 @@ RunningLead {D} g =
     → HasNumber p (length pages.frozen.addresses)
     → IsVolumeShape (g.shape s) → IsJournaled g s p pages → IsPages pages → IsTransaction (g.shape s).vaddrs (dirty_pages pages)
     → IsHoldingOf g s pages v → HoldsPages v
-    → ShowsPages (g.names s) (g.bytes s) page_of_stamp → MapStands (g.shape s) (running_on g s pages) page_of_stamp count tree
-    → StandFor g s (ahead_on g s p pages) page_of_stamp count tree
+    → ShowsPages (g.names s) (g.bytes s) page_of_stamp → MapRepresents (g.shape s) (running_on g s pages) page_of_stamp count tree
+    → RepresentsAndLeads g s (ahead_on g s p pages) page_of_stamp count tree
 
 -- What is stored can be opened: its virtual segment is firm, no write failed at an address, its pages under names are those of the device,
 -- and pages of one stamp agree.
@@ -92,23 +92,23 @@ pub record IsFirm {D : Type 0} (g : Ghosts D) (s : D) : Type 0 where
   pub agree : NamedAgree (stored g s)
 
 -- A stop within a call of the journal leaves a tree, where the pages stand for it that are committed then.
-pub record LeavesStanding {D : Type 0} (g : Ghosts D) (s : D) : Type 0 where
+pub record LeavesRepresented {D : Type 0} (g : Ghosts D) (s : D) : Type 0 where
   pub one : (a : VirtualMap) (page_of_stamp : ℕ → Option PageOfStamp) (c : Stored) (count : ℕ) (tree : Tree) → LeavesOne g s a c
-      → StandFor g s a page_of_stamp count tree
+      → RepresentsAndLeads g s a page_of_stamp count tree
       → LeavesTree (g.shape s) (g.names s) (g.bytes s) page_of_stamp c count tree
   -- before its commit page is finished, one of two
   pub either : (a b : VirtualMap) (page_of_stamp : ℕ → Option PageOfStamp) (c : Stored) (count after : ℕ) (tree later : Tree)
       → LeavesEither g s a b c
-      → StandFor g s a page_of_stamp count tree → StandFor g s b page_of_stamp after later
+      → RepresentsAndLeads g s a page_of_stamp count tree → RepresentsAndLeads g s b page_of_stamp after later
       → LeavesTree (g.shape s) (g.names s) (g.bytes s) page_of_stamp c count tree
       ⊎ LeavesTree (g.shape s) (g.names s) (g.bytes s) page_of_stamp c after later
   -- in a whole commit one of three: the pages of before, those with the frozen ones, or those with the dirty ones too
   pub one_of : (a b d : VirtualMap) (page_of_stamp : ℕ → Option PageOfStamp) (c : Stored) (count after last : ℕ) (tree later newest : Tree)
       → LeavesOneOf g s a b d c
-      → StandFor g s a page_of_stamp count tree → StandFor g s b page_of_stamp after later → StandFor g s d page_of_stamp last newest
+      → RepresentsAndLeads g s a page_of_stamp count tree → RepresentsAndLeads g s b page_of_stamp after later → RepresentsAndLeads g s d page_of_stamp last newest
       → LeavesTree (g.shape s) (g.names s) (g.bytes s) page_of_stamp c count tree
       ⊎ (LeavesTree (g.shape s) (g.names s) (g.bytes s) page_of_stamp c after later
       ⊎ LeavesTree (g.shape s) (g.names s) (g.bytes s) page_of_stamp c last newest)
 
-abbrev pub StopsStand : {D : Type 0} → Ghosts D → Type 0
-StopsStand {D} g = (s : D) → IsVolumeShape (g.shape s) → IsFirm g s → LeavesStanding g s
+abbrev pub CrashStatesRepresent : {D : Type 0} → Ghosts D → Type 0
+CrashStatesRepresent {D} g = (s : D) → IsVolumeShape (g.shape s) → IsFirm g s → LeavesRepresented g s

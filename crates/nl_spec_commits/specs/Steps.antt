@@ -2,7 +2,7 @@
 use Rattle.std.specs.Prelude.{◌≡◌, ℕ, ◌<◌, List, length}
 use Rattle.nl_field.specs.declared.pointer.Pointer.{Pointer}
 use Rattle.nl_field.specs.declared.pointer.Tag.{Tag}
-use Rattle.nl_iface.specs.Calls.{Frees, KeepsVirtual, Places}
+use Rattle.nl_iface.specs.Calls.{Frees, KeepsVirtual, PlacesNewPage}
 use Rattle.nl_iface.specs.Device.{IsVolumeShape}
 use Rattle.nl_iface.specs.Holders.{tagged}
 use Rattle.nl_iface.specs.Moves.{Copies}
@@ -10,7 +10,7 @@ use Rattle.nl_iface.specs.Names.{IsNames, SameTables}
 use Rattle.nl_iface.specs.declared.Callback.{Callback}
 use Rattle.nl_iface.specs.declared.counts.Counts.{Ghosts}
 use Rattle.nl_spec_holders.specs.Holding.{Holding}
-use Rattle.nl_spec_holders.specs.Laws.{Keeps, OldNamesDiffer}
+use Rattle.nl_spec_holders.specs.Laws.{PreservesHolding, OldNamesDiffer}
 use Rattle.nl_spec_holders.specs.Lists.{ListGains, ListLoses}
 use Rattle.nl_journal.specs.Progress.{Progress, begun}
 use Rattle.nl_meta.specs.Pages.{Pages}
@@ -30,7 +30,7 @@ StepKeepsHeld {D} g =
     → IsVolumeShape (g.shape s) → IsJournaled g s p pages
     → IsHeldVolume g s p pages flight freeing → KeepsVirtual g s t → now.frozen ≡ pages.frozen
     → ((v : Holding) → v.number ≡ begun p (length pages.frozen.addresses)
-    → Keeps (holding_with g s pages flight freeing v) (holding_with g t now later waiting v))
+    → PreservesHolding (holding_with g s pages flight freeing v) (holding_with g t now later waiting v))
     → IsHeldVolume g t p now later waiting
 
 -- Callbacks are handled by a transaction that comes after the last one that was begun.
@@ -40,7 +40,7 @@ HandlingKeepsHeld {D} g =
     → IsVolumeShape (g.shape s) → IsJournaled g s p pages
     → IsHeldVolume g s p pages flight freeing → KeepsVirtual g s t → now.frozen ≡ pages.frozen
     → begun p (length pages.frozen.addresses) < transaction
-    → ((v : Holding) → v.number < transaction → Keeps (holding_with g s pages flight freeing v) (holding_with g t now later waiting v))
+    → ((v : Holding) → v.number < transaction → PreservesHolding (holding_with g s pages flight freeing v) (holding_with g t now later waiting v))
     → IsHeldVolume g t p now later waiting
 
 -- ---- the metadata stays
@@ -51,7 +51,7 @@ ProgramKeepsHeld {D} g =
     (s t : D) (p : Progress) (pages : Pages) (flight later : List (Tag × Pointer)) (freeing : List Pointer) (tag : Tag) (main : List ℕ)
     (at : Pointer) → IsVolumeShape (g.shape s) → IsJournaled g s p pages
     → IsHeldVolume g s p pages flight freeing → KeepsVirtual g s t → IsNames (g.shape s) (g.next_stamp s) (g.names s)
-    → Places g tag main 0 (g.names s) s t at
+    → PlacesNewPage g tag main 0 (g.names s) s t at
     → ListGains tagged (tag, at) flight later → IsHeldVolume g t p pages later freeing
 
 -- A page in flight is freed.
@@ -67,7 +67,7 @@ abbrev pub CleaningKeepsHeld : {D : Type 0} → Ghosts D → Type 0
 CleaningKeepsHeld {D} g =
     (s t : D) (p : Progress) (pages : Pages) (flight : List (Tag × Pointer)) (freeing : List Pointer) → IsVolumeShape (g.shape s)
     → IsJournaled g s p pages → IsHeldVolume g s p pages flight freeing
-    → KeepsVirtual g s t → ((v : Holding) → Keeps (record v { names = g.names s }) (record v { names = g.names t }))
+    → KeepsVirtual g s t → ((v : Holding) → PreservesHolding (record v { names = g.names s }) (record v { names = g.names t }))
     → IsHeldVolume g t p pages flight freeing
 
 -- The cleaner moves one page.

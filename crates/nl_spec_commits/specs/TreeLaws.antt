@@ -6,7 +6,7 @@ use Rattle.nl_field.specs.declared.answers.VirtualWrite.{VirtualWrite}
 use Rattle.nl_field.specs.declared.answers.VirtualWrite.TheVariants as write
 use Rattle.nl_field.specs.declared.pointer.Pointer.{Pointer}
 use Rattle.nl_field.specs.declared.pointer.Tag.{Tag}
-use Rattle.nl_iface.specs.Calls.{Leaves}
+use Rattle.nl_iface.specs.Calls.{CrashStatesHave}
 use Rattle.nl_iface.specs.Device.{IsVolumeShape}
 use Rattle.nl_iface.specs.Stored.{Stored}
 use Rattle.nl_iface.specs.declared.counts.Counts.{Ghosts}
@@ -20,7 +20,7 @@ use Rattle.nl_journal_commit.specs.Counting.{record_of, with_count, with_frozen}
 use Rattle.nl_journal_commit.specs.Standing.{CanFreeze, IsJournaled}
 use Rattle.nl_spec_commits.specs.Held.{IsHeldVolume}
 use Rattle.nl_spec_commits.specs.Standing.{IsFirm, ShowsPages}
-use Rattle.nl_spec_commits.specs.Trees.{OpensAs, Prefix, StandsFor, Trees, prefixes}
+use Rattle.nl_spec_commits.specs.Trees.{StoredOpensAs, Prefix, RepresentsTrees, Trees, prefixes}
 use Rattle.nl_field.specs.declared.shape.Shape.{Shape}
 
 -- what a part of a commit leaves committed: the frozen transaction, where its commit page was finished
@@ -35,28 +35,28 @@ completed decided t = record t { committed = decided_tree decided t }
 abbrev pub frozen_now : ℕ → Trees → Trees
 frozen_now count t = record t { frozen = (count, t.running) }
 
-abbrev pub CompletingGoes : {D : Type 0} → Ghosts D → Type 0
-CompletingGoes {D} g =
+abbrev pub CompletingPreservesTrees : {D : Type 0} → Ghosts D → Type 0
+CompletingPreservesTrees {D} g =
     (answer : VirtualWrite) (s t : D) (p q : Progress) (pages now : Pages) (count : ℕ) (page_of_stamp : ℕ → Option PageOfStamp) (x : Trees)
     (decided : Option ℕ) → IsVolumeShape (g.shape s) → g.tells
     → HasNumber p (length pages.frozen.addresses) → IsJournaled g s p pages → Completes g (answer ≡ write.Done) s p pages t q now
     → IsDecided decided p q pages.frozen now.frozen
-    → StandsFor g s p pages count page_of_stamp x → StandsFor g t q now count page_of_stamp (completed decided x)
+    → RepresentsTrees g s p pages count page_of_stamp x → RepresentsTrees g t q now count page_of_stamp (completed decided x)
 
-abbrev pub FreezingGoes : {D : Type 0} → Ghosts D → Type 0
-FreezingGoes {D} g =
+abbrev pub FreezingPreservesTrees : {D : Type 0} → Ghosts D → Type 0
+FreezingPreservesTrees {D} g =
     (s : D) (p : Progress) (pages : Pages) (count : ℕ) (page_of_stamp : ℕ → Option PageOfStamp) (x : Trees) → IsVolumeShape (g.shape s)
     → g.tells → HasNumber p (length pages.frozen.addresses)
     → IsJournaled g s p pages → IsPages pages → CanFreeze (g.shape s).vaddrs p pages
     → page_of pages 0 ≡ Some (super_bytes (record_of (g.shape s) count)) → count < 2 ^ 63
-    → StandsFor g s p pages count page_of_stamp x → StandsFor g s p (with_frozen pages) count page_of_stamp (frozen_now count x)
+    → RepresentsTrees g s p pages count page_of_stamp x → RepresentsTrees g s p (with_frozen pages) count page_of_stamp (frozen_now count x)
 
 -- Another count in the super page changes none of the trees for which a volume stands.
-abbrev pub SuperPageGoes : {D : Type 0} → Ghosts D → Type 0
-SuperPageGoes {D} g =
+abbrev pub SuperPagePreservesTrees : {D : Type 0} → Ghosts D → Type 0
+SuperPagePreservesTrees {D} g =
     (s : D) (p : Progress) (pages : Pages) (shape : Shape) (stored count : ℕ) (page_of_stamp : ℕ → Option PageOfStamp) (x : Trees)
     → IsVolumeShape (g.shape s) → IsJournaled g s p pages
-    → StandsFor g s p pages count page_of_stamp x → StandsFor g s p (with_count shape stored pages) count page_of_stamp x
+    → RepresentsTrees g s p pages count page_of_stamp x → RepresentsTrees g s p (with_count shape stored pages) count page_of_stamp x
 
 -- what a whole commit leaves
 abbrev pub committed_by : ℕ → Option ℕ → Option ℕ → Trees → Prefix
@@ -67,29 +67,29 @@ committed_by count earlier (Some moment) t = (count, t.running)
 pub record CommitsTrees {D : Type 0} (g : Ghosts D) (t : D) (r : Progress) (now : Pages) (count : ℕ)
     (page_of_stamp : ℕ → Option PageOfStamp) (earlier decided : Option ℕ) (x : Trees) : Type 0 where
   pub trees : Trees
-  pub stands : StandsFor g t r now count page_of_stamp trees
+  pub stands : RepresentsTrees g t r now count page_of_stamp trees
   pub running : trees.running ≡ x.running
   pub committed : trees.committed ≡ committed_by count earlier decided x
   pub frozen : Has (prefixes count x) trees.frozen
 
-abbrev pub CommitGoes : {D : Type 0} → Ghosts D → Type 0
-CommitGoes {D} g =
+abbrev pub CommitPreservesTrees : {D : Type 0} → Ghosts D → Type 0
+CommitPreservesTrees {D} g =
     (answer : VirtualWrite) (s t : D) (p r : Progress) (pages now : Pages) (count : ℕ) (page_of_stamp : ℕ → Option PageOfStamp) (x : Trees)
     (earlier decided : Option ℕ) → IsVolumeShape (g.shape s) → g.tells
     → HasNumber r (length now.frozen.addresses) → count < 2 ^ 63 → IsJournaled g s p pages
     → CommitsInParts g (answer ≡ write.Done) earlier decided s p (with_count (g.shape s) count pages) t r now
-    → StandsFor g s p pages count page_of_stamp x → CommitsTrees g t r now count page_of_stamp earlier decided x
+    → RepresentsTrees g s p pages count page_of_stamp x → CommitsTrees g t r now count page_of_stamp earlier decided x
 
 -- the moment of the last commit page that was finished
-abbrev pub moment_of : ℕ → Option ℕ → Option ℕ → ℕ
-moment_of before earlier (Some moment) = moment
-moment_of before (Some moment) None = moment
-moment_of before None None = before
+abbrev pub last_commit_moment : ℕ → Option ℕ → Option ℕ → ℕ
+last_commit_moment before earlier (Some moment) = moment
+last_commit_moment before (Some moment) None = moment
+last_commit_moment before None None = before
 
 -- What a stop leaves opens as one of the trees, from that moment on as none earlier than what is committed then.
 abbrev pub OpensFrom : Shape → ℕ → ℕ → Trees → Prefix → ℕ → Stored → Type 0
 OpensFrom shape count moment x committed m c =
-    (z : Prefix) × Has (prefixes count x) z × OpensAs shape c z × (moment ≤ m → committed.0 ≤ z.0)
+    (z : Prefix) × Has (prefixes count x) z × StoredOpensAs shape c z × (moment ≤ m → committed.0 ≤ z.0)
 
 abbrev pub CommitLeaves : {D : Type 0} → Ghosts D → Type 0
 CommitLeaves {D} g =
@@ -102,5 +102,5 @@ CommitLeaves {D} g =
     → CommitWrites g (answer ≡ write.Done) p r (with_count (g.shape s) count pages) now s t
     → IfSome earlier (EarlierAt g s t p r (with_count (g.shape s) count pages) now)
     → IfSome decided (ChangesAt g s t p r (with_count (g.shape s) count pages) now)
-    → StandsFor g s p pages count page_of_stamp x
-    → Leaves g (OpensFrom (g.shape s) count (moment_of before earlier decided) x (committed_by count earlier decided x)) s t
+    → RepresentsTrees g s p pages count page_of_stamp x
+    → CrashStatesHave g (OpensFrom (g.shape s) count (last_commit_moment before earlier decided) x (committed_by count earlier decided x)) s t

@@ -12,9 +12,9 @@ use Rattle.nl_meta.specs.Committed.{VirtualMap}
 use Rattle.nl_meta.specs.Consistent.{PageOfStamp, RightFor}
 use Rattle.nl_meta.specs.Pages.{Pages}
 use Rattle.nl_meta_running.specs.Running.{running_on}
-use Rattle.nl_spec_image.specs.LeftIsSound.{LeavesTree, MapStands}
+use Rattle.nl_spec_image.specs.LeftIsSound.{LeavesTree, MapRepresents}
 use Rattle.nl_spec_image.specs.RightFor.{PagesRepresent}
-use Rattle.nl_journal_commit.specs.Completing.{IsOpen}
+use Rattle.nl_journal_commit.specs.Completing.{AwaitsCommitPage}
 use Rattle.nl_spec_commits.specs.Committed.{read_as}
 
 -- a tree after so many calls
@@ -37,27 +37,27 @@ abbrev pub prefixes : ℕ → Trees → List Prefix
 prefixes count t = t.committed ∷ t.frozen ∷ (count, t.running) ∷ []
 
 -- The pages, whatever count their super page has, represent a tree that the volume may have.
-pub record RunsAs (shape : Shape) (pages : VirtualMap) (page_of_stamp : ℕ → Option PageOfStamp) (tree : Tree) : Type 0 where
+pub record RepresentsTree (shape : Shape) (pages : VirtualMap) (page_of_stamp : ℕ → Option PageOfStamp) (tree : Tree) : Type 0 where
   pub right : RightFor shape pages page_of_stamp
   pub represents : PagesRepresent shape pages page_of_stamp tree
   pub data_fits : data_charge tree ≤ shape.cap
 
 -- the pages stand for the tree after so many calls, read with the zeros of inode pages that were never written
-abbrev pub StandsAs : Shape → VirtualMap → (ℕ → Option PageOfStamp) → Prefix → Type 0
-StandsAs shape pages page_of_stamp x = MapStands shape (read_as shape pages) page_of_stamp x.0 x.1
+abbrev pub RepresentsPrefix : Shape → VirtualMap → (ℕ → Option PageOfStamp) → Prefix → Type 0
+RepresentsPrefix shape pages page_of_stamp x = MapRepresents shape (read_as shape pages) page_of_stamp x.0 x.1
 
 -- The running pages, the committed ones and those of a frozen transaction stand for these trees, with what the page of each write sequence
 -- number holds.
-pub record StandsFor {D : Type 0} (g : Ghosts D) (s : D) (p : Progress) (pages : Pages) (count : ℕ) (page_of_stamp : ℕ → Option PageOfStamp)
+pub record RepresentsTrees {D : Type 0} (g : Ghosts D) (s : D) (p : Progress) (pages : Pages) (count : ℕ) (page_of_stamp : ℕ → Option PageOfStamp)
     (t : Trees) : Type 0 where
-  pub running : RunsAs (g.shape s) (running_on g s pages) page_of_stamp t.running
-  pub committed : StandsAs (g.shape s) (committed_on g s) page_of_stamp t.committed
-  pub frozen : IsOpen p pages.frozen → StandsAs (g.shape s) (finished_on g s p pages) page_of_stamp t.frozen
-  pub thawed : (IsOpen p pages.frozen → ⊥) → t.frozen ≡ t.committed
+  pub running : RepresentsTree (g.shape s) (running_on g s pages) page_of_stamp t.running
+  pub committed : RepresentsPrefix (g.shape s) (committed_on g s) page_of_stamp t.committed
+  pub frozen : AwaitsCommitPage p pages.frozen → RepresentsPrefix (g.shape s) (finished_on g s p pages) page_of_stamp t.frozen
+  pub thawed : (AwaitsCommitPage p pages.frozen → ⊥) → t.frozen ≡ t.committed
   pub later : t.committed.0 ≤ t.frozen.0
   pub latest : t.frozen.0 ≤ count
 
 -- what is stored opens as the tree after so many calls
-abbrev pub OpensAs : Shape → Stored → Prefix → Type 0
-OpensAs shape c x =
+abbrev pub StoredOpensAs : Shape → Stored → Prefix → Type 0
+StoredOpensAs shape c x =
     (names : Names) × (bytes : ℕ → List ℕ) × (page_of_stamp : ℕ → Option PageOfStamp) × LeavesTree shape names bytes page_of_stamp c x.0 x.1

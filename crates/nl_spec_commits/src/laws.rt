@@ -3,18 +3,18 @@ ghost use Rattle.std.specs.Prelude.{◌≡◌};
 ghost use Rattle.nl_iface.specs.Calls.{StoresMap, StoresPages};
 ghost use Rattle.nl_iface.specs.Device.{IsVolumeShape};
 ghost use Rattle.nl_spec_holders.specs.Laws.{OldNamesDiffer};
-ghost use Rattle.nl_iface.specs.Names.{IsNames, IsTable};
+ghost use Rattle.nl_iface.specs.Names.{IsNames, IsTableOfNames};
 ghost use Rattle.nl_spec_commits.specs.Changes.{CuttingKeepsHeld, InstallingKeepsHeld, NamesKeepHeld, ReadingKeepsHeld, ReplacingKeepsHeld, RunsOfLists, SuperPageKeepsHeld};
 ghost use Rattle.nl_spec_commits.specs.CommittedLaws.{CompletingHolds, FreezingHolds, SuperPageHolds};
 ghost use Rattle.nl_spec_commits.specs.DeviceLaws.{AddressesGo, HoldingOpens, NowHolds, PagesGo};
 ghost use Rattle.nl_spec_commits.specs.FileCuts.{EmptyingKeepsHeld, PartingKeepsHeld, TruncatingKeepsHeld};
 ghost use Rattle.nl_spec_commits.specs.FirmLaws.{CommitKeepsFirm, MediumKeepsFirm, ProgramKeepsFirm, StoredKeepsFirm};
 ghost use Rattle.nl_spec_commits.specs.Held.{AcknowledgedKeepsHeld, CommitHolds, CommitKeepsHeld, FreedKeepsHeld, OpeningIsHeld};
-ghost use Rattle.nl_spec_commits.specs.TreeLaws.{CommitGoes, CommitLeaves, CompletingGoes, FreezingGoes, SuperPageGoes};
+ghost use Rattle.nl_spec_commits.specs.TreeLaws.{CommitPreservesTrees, CommitLeaves, CompletingPreservesTrees, FreezingPreservesTrees, SuperPagePreservesTrees};
 ghost use Rattle.nl_spec_commits.specs.OpeningLaws.{ConsistentIsFirm, OpenedIsFirm};
 ghost use Rattle.nl_spec_commits.specs.SettlingLaws.{AcknowledgesHold, AddressesHold, ChangesJournaled, FreesHold, MetadataHolds, NoneDue, StepsJournaled};
 ghost use Rattle.nl_spec_commits.specs.Steps.{CleaningKeepsHeld, CopyKeepsHeld, DropKeepsHeld, HandlingKeepsHeld, ProgramKeepsHeld, StepKeepsHeld, TablesKeepHeld};
-ghost use Rattle.nl_spec_commits.specs.Standing.{AheadIsRunning, CommittedReads, HeldLead, RunningLead, StandsAlike, StopsStand};
+ghost use Rattle.nl_spec_commits.specs.Standing.{AheadIsRunning, CommittedReads, HeldLead, RunningLead, AgreeingRepresentSame, CrashStatesRepresent};
 
 use nl_iface::{NamedPages, VirtualPages};
 
@@ -35,10 +35,10 @@ pub fn commits_read<D: VirtualPages>()
 /// Where pages are held for them, the pointers lead of the committed pages, of the frozen ones and of those that run. What a stop within a
 /// commit leaves then stands for the tree of one of the three.
 pub fn stops_stand<D: VirtualPages>()
-    ensures alike { StandsAlike }
+    ensures alike { AgreeingRepresentSame }
     ensures held { HeldLead D.Counts }
     ensures running { RunningLead D.Counts }
-    ensures stops { StopsStand D.Counts }
+    ensures stops { CrashStatesRepresent D.Counts }
 {}
 
 /// What is committed and frozen keeps its pages while the addresses stay as they are, and while the metadata changes: also as pages that
@@ -70,10 +70,10 @@ pub fn opening_is_held<D: VirtualPages>()
 /// The trees of a volume go on through a commit: through each of its parts, and whole. What a stop within it leaves opens as one of them,
 /// from the moment of the last commit page on as none earlier than what that one committed.
 pub fn trees_go_on<D: VirtualPages>()
-    ensures completing { CompletingGoes D.Counts }
-    ensures freezing { FreezingGoes D.Counts }
-    ensures super_page { SuperPageGoes D.Counts }
-    ensures commit { CommitGoes D.Counts }
+    ensures completing { CompletingPreservesTrees D.Counts }
+    ensures freezing { FreezingPreservesTrees D.Counts }
+    ensures super_page { SuperPagePreservesTrees D.Counts }
+    ensures commit { CommitPreservesTrees D.Counts }
     ensures leaves { CommitLeaves D.Counts }
 {}
 
@@ -138,7 +138,7 @@ pub fn device_stands<D: NamedPages>(device: &D)
     ensures map { D.tells → StoresMap D.Counts device.now }
     ensures pages { D.tells → StoresPages D.Counts device.now }
     ensures names { IsNames (D.shape device.now) (D.next_stamp device.now) (D.names device.now) }
-    ensures table { IsTable (D.names device.now) }
+    ensures table { IsTableOfNames (D.names device.now) }
     ensures differ { OldNamesDiffer (D.names device.now) }
 {}
 

@@ -18,13 +18,13 @@ use Rattle.nl_spec_image.specs.Crash.{OpensAsPrefix, Run, with_call, with_sync}
 use Rattle.nl_spec_image.specs.LeftIsSound.{LeavesTree}
 use Rattle.nl_spec_image.proofs.LeftIsSoundProofs.{what_is_left_is_sound}
 use Rattle.nl_spec_image.proofs.StopsKept.{more_calls, more_syncs}
-use Rattle.nl_spec_commits.specs.Trees.{OpensAs, Prefix, Trees, all_at, prefixes}
-use Rattle.nl_core.specs.Goes.{Goes}
-use Rattle.nl_core.specs.Trees.{CoreRuns, IsTold}
+use Rattle.nl_spec_commits.specs.Trees.{StoredOpensAs, Prefix, Trees, all_at, prefixes}
+use Rattle.nl_core.specs.Goes.{PreservesVolume}
+use Rattle.nl_core.specs.Trees.{CoreRepresentsTree, CoreIsObservable}
 use Rattle.nl_core.specs.declared.state.Core.{Core}
 use Rattle.nl_core.proofs.Onward.{paid_on}
-use Rattle.nl_spec_crashes.specs.Along.{GoesAlong, IsAlong, IsOfRun, opens_as, tree_at}
-use Rattle.nl_spec_crashes.specs.Laws.{CallGoesAlong, EffectGoesAlong, EndsStanding, OpeningGoesAlong, OpensSound, SyncGoesAlong}
+use Rattle.nl_spec_crashes.specs.Along.{FollowsRun, IsAlong, IsOfRun, opens_as, tree_at}
+use Rattle.nl_spec_crashes.specs.Laws.{CallFollowsRun, EffectFollowsRun, EndsDurable, OpeningFollowsRun, OpensConsistent, SyncFollowsRun}
 
 -- ---- syncs
 
@@ -81,7 +81,7 @@ of_longer run x z is =
     }
 
 module _ {D : Type 0} (g : Ghosts D) where
-  told_before : (n : ℕ) (u v : Core D) → Goes g n u v → IsTold g v → IsTold g u
+  told_before : (n : ℕ) (u v : Core D) → PreservesVolume g n u v → CoreIsObservable g v → CoreIsObservable g u
   told_before n u v a told = record {
     tells = told.tells;
     numbers = let one = a.numbers in let all = told.numbers in omega (arith, one, all);
@@ -90,14 +90,14 @@ module _ {D : Type 0} (g : Ghosts D) where
   }
 
   -- the last tree is of the run
-  at_end : (run : Run) (v : Core D) (page_of_stamp : ℕ → Option PageOfStamp) (t : Trees) → v.count ≡ saturated (run.count + length run.calls) → IsTold g v → IsAlong g run v page_of_stamp t → IsOfRun run (v.count, t.running)
+  at_end : (run : Run) (v : Core D) (page_of_stamp : ℕ → Option PageOfStamp) (t : Trees) → v.count ≡ saturated (run.count + length run.calls) → CoreIsObservable g v → IsAlong g run v page_of_stamp t → IsOfRun run (v.count, t.running)
   at_end run v page_of_stamp t count told al =
       let few = told.calls in
       record { from = omega (arith, count, few); to = omega (arith, count, few); tree = al.running }
 
   -- what a call may leave that was not left before
-  module _ (n : ℕ) (u v : Core D) (origin : Core D) (first : ℕ) (run : Run) (a : Goes g n u v) (w : GoesAlong g origin first run u) (told : IsTold g v) where
-    told_u : IsTold g u
+  module _ (n : ℕ) (u v : Core D) (origin : Core D) (first : ℕ) (run : Run) (a : PreservesVolume g n u v) (w : FollowsRun g origin first run u) (told : CoreIsObservable g v) where
+    told_u : CoreIsObservable g u
     told_u = told_before n u v a told
 
     k : (page_of_stamp : ℕ → Option PageOfStamp) × (t : Trees) × IsAlong g run u page_of_stamp t
@@ -118,14 +118,14 @@ module _ {D : Type 0} (g : Ghosts D) where
     synced_by : (z : Prefix) → Has (prefixes u.count k.1) z → (s : SyncPoint) → Has run.syncs s → s.upto ≤ z.0
     synced_by z has s is = let one = al.synced s is in let two = later z has in omega (arith, one, two)
 
-    opens_so : (m : ℕ) (c : g.Crash) (z : Prefix) → Has (prefixes u.count k.1) z → OpensAs (g.shape u.device) (g.stored_of c) z → OpensAsPrefix (opens_as g run.shape) run m c
+    opens_so : (m : ℕ) (c : g.Crash) (z : Prefix) → Has (prefixes u.count k.1) z → StoredOpensAs (g.shape u.device) (g.stored_of c) z → OpensAsPrefix (opens_as g run.shape) run m c
     opens_so m c z has opens =
         let is = of_run z has in
         record {
           prefix = z.0;
           holds_synced = durable_within run.syncs run.count m z.0 is.from (synced_by z has);
           not_beyond = is.to;
-          sound = subst (λ tree. OpensAs run.shape (g.stored_of c) (z.0, tree)) is.tree (subst (λ (h : Shape). OpensAs h (g.stored_of c) z) w.shape opens);
+          sound = subst (λ tree. StoredOpensAs run.shape (g.stored_of c) (z.0, tree)) is.tree (subst (λ (h : Shape). StoredOpensAs h (g.stored_of c) z) w.shape opens);
         }
 
     pub trees_after : (page_of_stamp : ℕ → Option PageOfStamp) × (t : Trees) × IsAlong g run v page_of_stamp t
@@ -158,14 +158,14 @@ module _ {D : Type 0} (g : Ghosts D) where
         inr (omega (arith, from, start), x.1, inr (opens_so m c x.2.0 x.2.1 x.2.2, x.2.3, synced_by x.2.0 x.2.1, (of_run x.2.0 x.2.1).from)))
         (l.each m c left)
 
-  runs_after : (n : ℕ) (u v : Core D) (origin : Core D) (first : ℕ) (run : Run) → Goes g n u v → GoesAlong g origin first run u → g.tells
-      → (page_of_stamp : ℕ → Option PageOfStamp) × CoreRuns g v page_of_stamp (replay run.shape run.tree run.calls)
+  runs_after : (n : ℕ) (u v : Core D) (origin : Core D) (first : ℕ) (run : Run) → PreservesVolume g n u v → FollowsRun g origin first run u → g.tells
+      → (page_of_stamp : ℕ → Option PageOfStamp) × CoreRepresentsTree g v page_of_stamp (replay run.shape run.tree run.calls)
   runs_after n u v origin first run a w tells =
       let k = w.runs tells in
       let go = a.runs tells k.0 (replay run.shape run.tree run.calls) k.1 in
       (go.pages, go.runs)
 
-  pub call_goes_along : CallGoesAlong g
+  pub call_goes_along : CallFollowsRun g
   call_goes_along n u v origin first run a w = record {
     shape = a.same_shape ∙ w.shape;
     from = let one = w.from in let two = a.clock in omega (arith, one, two);
@@ -181,7 +181,7 @@ module _ {D : Type 0} (g : Ghosts D) where
   of_synced : (run : Run) (s : SyncPoint) (z : Prefix) → IsOfRun run z → IsOfRun (with_sync run s) z
   of_synced run s z is = record { from = is.from; to = is.to; tree = is.tree }
 
-  pub sync_goes_along : SyncGoesAlong g
+  pub sync_goes_along : SyncFollowsRun g
   sync_goes_along n number u v origin first run a all w = record {
     shape = a.same_shape ∙ w.shape;
     from = let one = w.from in let two = a.clock in omega (arith, one, two);
@@ -209,7 +209,7 @@ module _ {D : Type 0} (g : Ghosts D) where
       s : SyncPoint
       s = record { upto = v.committed; moment = v.moment }
 
-      earlier : IsTold g v → (m : ℕ) (c : g.Crash) → m ≤ g.clock u.device → OpensAsPrefix (opens_as g run.shape) run m c → OpensAsPrefix (opens_as g run.shape) (with_sync run s) m c
+      earlier : CoreIsObservable g v → (m : ℕ) (c : g.Crash) → m ≤ g.clock u.device → OpensAsPrefix (opens_as g run.shape) run m c → OpensAsPrefix (opens_as g run.shape) (with_sync run s) m c
       earlier told m c to o =
           let few = told.moments in
           let clock = a.clock in
@@ -226,7 +226,7 @@ module _ {D : Type 0} (g : Ghosts D) where
         sound = o.sound;
       }
 
-  pub effect_goes_along : EffectGoesAlong g
+  pub effect_goes_along : EffectFollowsRun g
   effect_goes_along u v x origin first run e w = record {
     shape = e.same_shape ∙ w.shape;
     from = let one = w.from in let two = e.same_clock in omega (arith, one, two);
@@ -234,9 +234,9 @@ module _ {D : Type 0} (g : Ghosts D) where
     paid = λ low. let clock = e.same_clock in let number = e.same_number in let one = w.paid (omega (arith, low, clock)) in omega (arith, one, clock, number);
     runs = λ tells.
         let k = w.runs tells in
-        let now : CoreRuns g v k.0 (step_marked (g.shape u.device) (replay run.shape run.tree run.calls) x).tree = e.runs tells k.0 (replay run.shape run.tree run.calls) k.1 in
+        let now : CoreRepresentsTree g v k.0 (step_marked (g.shape u.device) (replay run.shape run.tree run.calls) x).tree = e.runs tells k.0 (replay run.shape run.tree run.calls) k.1 in
         let is = (λ i. (step_marked (w.shape i) (replay run.shape run.tree run.calls) x).tree) ∙ sym (replay_more run.shape run.tree run.calls x) in
-        (k.0, subst (λ (tree : Tree). CoreRuns g v k.0 tree) is now);
+        (k.0, subst (λ (tree : Tree). CoreRepresentsTree g v k.0 tree) is now);
     trees = λ told.
         let k = w.trees (e.told told) in
         let al : IsAlong g run u k.0 k.1 = k.2 in (
@@ -255,7 +255,7 @@ module _ {D : Type 0} (g : Ghosts D) where
     };
   }
     where
-      last : IsTold g v → (t : Trees) → t.running ≡ tree_at run u.count → (step_marked (g.shape u.device) t.running x).tree ≡ tree_at (with_call run x) v.count
+      last : CoreIsObservable g v → (t : Trees) → t.running ≡ tree_at run u.count → (step_marked (g.shape u.device) t.running x).tree ≡ tree_at (with_call run x) v.count
       last told t running =
           let few = told.calls in
           let one = e.count in
@@ -266,13 +266,13 @@ module _ {D : Type 0} (g : Ghosts D) where
           (λ i. (step_marked (w.shape i) ((running ∙ ap (replay run.shape run.tree) whole) i) x).tree)
           ∙ (sym (replay_more run.shape run.tree run.calls x) ∙ ap (replay run.shape run.tree) (sym longer))
 
-  pub opening_goes_along : OpeningGoesAlong g
+  pub opening_goes_along : OpeningFollowsRun g
   opening_goes_along v tree stands few = record {
     shape = refl;
     from = omega arith;
     count = omega (arith, few);
     paid = λ low. omega arith;
-    runs = λ tells. let k = stands tells in (k.0, subst (λ (t : Tree). CoreRuns g v k.0 t) (sym (replay_none (g.shape v.device) tree)) k.1.runs);
+    runs = λ tells. let k = stands tells in (k.0, subst (λ (t : Tree). CoreRepresentsTree g v k.0 t) (sym (replay_none (g.shape v.device) tree)) k.1.runs);
     trees = λ told.
         let k = stands told.tells in (
           k.0,
@@ -295,20 +295,20 @@ module _ {D : Type 0} (g : Ghosts D) where
   after_all : (run : Run) (v : Core D) → v.count ≡ saturated (run.count + length run.calls) → v.count < 2 ^ 63 → tree_at run v.count ≡ replay run.shape run.tree run.calls
   after_all run v count few = ap (replay run.shape run.tree) (take_all (v.count - run.count) run.calls (omega (arith, few, count)))
 
-  pub ends_standing : EndsStanding g
+  pub ends_standing : EndsDurable g
   ends_standing v origin first run opens w all told =
       let k = w.trees told in
       let al : IsAlong g run v k.0 k.1 = k.2 in
       let count = al.stands.committed ∙ all in
       let tree = al.committed.tree ∙ ap (tree_at run) count ∙ after_all run v w.count told.calls in
-      subst (λ (z : Prefix). OpensAs run.shape (stored g v.device) z) (λ i. (count i, tree i))
-      (subst (λ (h : Shape). OpensAs h (stored g v.device) k.1.committed) w.shape (opens told k.0 k.1 al.stands))
+      subst (λ (z : Prefix). StoredOpensAs run.shape (stored g v.device) z) (λ i. (count i, tree i))
+      (subst (λ (h : Shape). StoredOpensAs h (stored g v.device) k.1.committed) w.shape (opens told k.0 k.1 al.stands))
 
 -- ---- images
 
-pub opens_sound : {D : Type 0} (g : Ghosts D) → OpensSound g
+pub opens_sound : {D : Type 0} (g : Ghosts D) → OpensConsistent g
 opens_sound g run m c image holds whole shape o =
-    let l : OpensAs run.shape (g.stored_of c) (o.prefix, tree_at run o.prefix) = o.sound in
+    let l : StoredOpensAs run.shape (g.stored_of c) (o.prefix, tree_at run o.prefix) = o.sound in
     let tree = tree_at run o.prefix in
     record {
       prefix = o.prefix;

@@ -11,7 +11,7 @@ use Rattle.nl_journal.specs.Progress.{begun}
 use Rattle.nl_meta.specs.Consistent.{PageOfStamp}
 use Rattle.nl_spec_commits.specs.Trees.{Trees}
 use Rattle.nl_core.specs.Core.{IsCore}
-use Rattle.nl_core.specs.Trees.{CoreRuns, CoreStands, IsTold}
+use Rattle.nl_core.specs.Trees.{CoreRepresentsTree, CoreRepresents, CoreIsObservable}
 use Rattle.nl_core.specs.declared.state.Core.{Core}
 use Rattle.nl_calls_steps.specs.Steps.{Steps}
 use Rattle.nl_calls_steps.proofs.Stepping.{steps_go, steps_run}
@@ -27,7 +27,7 @@ module _ {D : Type 0} (g : Ghosts D) (old new : Core D) (x : Call × Option Faul
   number_stays : new.journal.number ≡ old.journal.number
   number_stays = ap (λ (v : Core D). v.journal.number) step.others
 
-  told_old : IsTold g (counted new) → IsTold g old
+  told_old : CoreIsObservable g (counted new) → CoreIsObservable g old
   told_old told = record {
     tells = told.tells;
     numbers = let all = told.numbers in let same = same_begun in omega (arith, all, same);
@@ -35,14 +35,14 @@ module _ {D : Type 0} (g : Ghosts D) (old new : Core D) (x : Call × Option Faul
     moments = let all = told.moments in let same = step.reads.medium.clock in omega (arith, all, same);
   }
 
-  told_new : IsTold g (counted new) → IsTold g new
+  told_new : CoreIsObservable g (counted new) → CoreIsObservable g new
   told_new told = record { tells = told.tells; numbers = told.numbers; calls = let all = told.calls in omega (arith, all); moments = told.moments }
 
-  counted_runs : (page_of_stamp : ℕ → Option PageOfStamp) (tree : Tree) → CoreRuns g new page_of_stamp tree → CoreRuns g (counted new) page_of_stamp tree
+  counted_runs : (page_of_stamp : ℕ → Option PageOfStamp) (tree : Tree) → CoreRepresentsTree g new page_of_stamp tree → CoreRepresentsTree g (counted new) page_of_stamp tree
   counted_runs page_of_stamp tree at = record { runs = at.runs; shows = at.shows; given = at.given }
 
   -- the count rises
-  more : IsTold g (counted new) → (page_of_stamp : ℕ → Option PageOfStamp) (t : Trees) → CoreStands g new page_of_stamp t → CoreStands g (counted new) page_of_stamp t
+  more : CoreIsObservable g (counted new) → (page_of_stamp : ℕ → Option PageOfStamp) (t : Trees) → CoreRepresents g new page_of_stamp t → CoreRepresents g (counted new) page_of_stamp t
   more told page_of_stamp t at = record {
     stands = record {
       running = at.stands.running;

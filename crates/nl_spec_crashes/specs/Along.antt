@@ -8,10 +8,10 @@ use Rattle.nl_tree.specs.Replay.{replay}
 use Rattle.nl_tree.specs.Tree.{Tree}
 use Rattle.nl_iface.specs.declared.counts.Counts.{Ghosts}
 use Rattle.nl_meta.specs.Consistent.{PageOfStamp}
-use Rattle.nl_spec_image.specs.Crash.{Run, StopsSafely}
-use Rattle.nl_spec_commits.specs.Trees.{OpensAs, Prefix, Trees}
+use Rattle.nl_spec_image.specs.Crash.{Run, CrashesSafely}
+use Rattle.nl_spec_commits.specs.Trees.{StoredOpensAs, Prefix, Trees}
 use Rattle.nl_core.specs.Goes.{PaidSince}
-use Rattle.nl_core.specs.Trees.{CoreRuns, CoreStands, IsTold}
+use Rattle.nl_core.specs.Trees.{CoreRepresentsTree, CoreRepresents, CoreIsObservable}
 use Rattle.nl_core.specs.declared.state.Core.{Core}
 
 -- the tree after so many calls, counted as the volume counts them: the calls of the run behind those before it
@@ -20,7 +20,7 @@ tree_at run k = replay run.shape run.tree (take (k - run.count) run.calls)
 
 -- what a stop leaves opens as this tree after so many calls
 abbrev pub opens_as : {D : Type 0} (g : Ghosts D) → Shape → g.Crash → ℕ → Tree → Type 0
-opens_as g shape c count tree = OpensAs shape (g.stored_of c) (count, tree)
+opens_as g shape c count tree = StoredOpensAs shape (g.stored_of c) (count, tree)
 
 -- a tree of the run, after so many calls
 pub record IsOfRun (run : Run) (x : Prefix) : Type 0 where
@@ -30,7 +30,7 @@ pub record IsOfRun (run : Run) (x : Prefix) : Type 0 where
 
 -- The core stands for the last tree of the run, and commits trees of it. Each sync made durable no more than is committed.
 pub record IsAlong {D : Type 0} (g : Ghosts D) (run : Run) (v : Core D) (page_of_stamp : ℕ → Option PageOfStamp) (t : Trees) : Type 0 where
-  pub stands : CoreStands g v page_of_stamp t
+  pub stands : CoreRepresents g v page_of_stamp t
   pub running : t.running ≡ tree_at run v.count
   pub committed : IsOfRun run t.committed
   pub frozen : IsOfRun run t.frozen
@@ -39,12 +39,12 @@ pub record IsAlong {D : Type 0} (g : Ghosts D) (run : Run) (v : Core D) (page_of
 -- The volume has answered the calls of the run since its first moment, when it was this one, the origin: what a stop had left before is no
 -- part of the run. The number of its transactions has risen by no more than the clock since. While the medium tells its contents, it runs
 -- as the tree after all of the calls. While counts have not ended either, it goes along the run, and so does what a stop leaves.
-pub record GoesAlong {D : Type 0} (g : Ghosts D) (origin : Core D) (first : ℕ) (run : Run) (v : Core D) : Type 0 where
+pub record FollowsRun {D : Type 0} (g : Ghosts D) (origin : Core D) (first : ℕ) (run : Run) (v : Core D) : Type 0 where
   pub shape : g.shape v.device ≡ run.shape
   pub from : first ≤ g.clock v.device
   pub count : v.count ≡ saturated (run.count + length run.calls)
   pub paid : PaidSince g first origin.journal.number v
-  pub runs : g.tells → (page_of_stamp : ℕ → Option PageOfStamp) × CoreRuns g v page_of_stamp (replay run.shape run.tree run.calls)
-  pub trees : IsTold g v → (page_of_stamp : ℕ → Option PageOfStamp) × (t : Trees) × IsAlong g run v page_of_stamp t
-  pub stops : IsTold g v
-      → StopsSafely (opens_as g run.shape) (λ m c. g.left origin.device m c) (λ m c. g.left v.device m c) first (g.clock v.device) run
+  pub runs : g.tells → (page_of_stamp : ℕ → Option PageOfStamp) × CoreRepresentsTree g v page_of_stamp (replay run.shape run.tree run.calls)
+  pub trees : CoreIsObservable g v → (page_of_stamp : ℕ → Option PageOfStamp) × (t : Trees) × IsAlong g run v page_of_stamp t
+  pub stops : CoreIsObservable g v
+      → CrashesSafely (opens_as g run.shape) (λ m c. g.left origin.device m c) (λ m c. g.left v.device m c) first (g.clock v.device) run

@@ -1,5 +1,5 @@
 //! Laws of a volume along its run: what a stop leaves of it, and when a step takes effect. A function stands for each law.
-ghost use Rattle.nl_spec_crashes.specs.Laws.{CallGoesAlong, EffectGoesAlong, EndsStanding, OpeningGoesAlong, OpensSound, SyncGoesAlong};
+ghost use Rattle.nl_spec_crashes.specs.Laws.{CallFollowsRun, EffectFollowsRun, EndsDurable, OpeningFollowsRun, OpensConsistent, SyncFollowsRun};
 ghost use Rattle.nl_spec_crashes.specs.Effects.{StepTakesEffect};
 
 use nl_iface::MovingPages;
@@ -9,12 +9,12 @@ use nl_iface::MovingPages;
 /// many as the syncs up to that moment made durable and not more than were answered; such an image is sound as that tree. After a commit
 /// of all calls that left it firm, what is stored opens as the tree after all of them.
 pub fn stops_go_along<D: MovingPages>()
-    ensures opening { OpeningGoesAlong D.Counts }
-    ensures call { CallGoesAlong D.Counts }
-    ensures effect { EffectGoesAlong D.Counts }
-    ensures sync { SyncGoesAlong D.Counts }
-    ensures ends { EndsStanding D.Counts }
-    ensures sound { OpensSound D.Counts }
+    ensures opening { OpeningFollowsRun D.Counts }
+    ensures call { CallFollowsRun D.Counts }
+    ensures effect { EffectFollowsRun D.Counts }
+    ensures sync { SyncFollowsRun D.Counts }
+    ensures ends { EndsDurable D.Counts }
+    ensures sound { OpensConsistent D.Counts }
 {}
 
 /// A step of a file call takes effect, once it is counted, where the pages stand for what the call makes of the tree.

@@ -8,7 +8,7 @@ use Rattle.nl_field.specs.Virtual.{virtual_bytes}
 use Rattle.nl_meta.specs.Committed.{next_number}
 use Rattle.nl_script.specs.Script.{script}
 use Rattle.nl_spec_image.specs.Crash.{OpensAsPrefix, Run}
-use Rattle.nl_spec_image.specs.Stands.{SoundAs}
+use Rattle.nl_spec_image.specs.Stands.{ConsistentAs}
 use Rattle.nl_tree.specs.Causes.{AreOneNumber, Counts, DifferBelowTop, HasCause, eio_of, erofs_of, fault_in}
 use Rattle.nl_tree.specs.Order.{AreSyncs, IsOrderOf}
 use Rattle.nl_tree.specs.Replay.{Answers, answer_due}
@@ -31,7 +31,7 @@ pub record IsYoung (image : Image) (before now : Counts) (course : Course) : Typ
 
 -- The image is sound, and as the tree after the count of calls with which the volume opened.
 pub record OpensAs (image : Image) (course : Course) : Type 0 where
-  pub sound : SoundAs image course.count course.tree
+  pub sound : ConsistentAs image course.count course.tree
   pub shape : course.shape ≡ shape_of_image image
   pub next_stamp : course.next_stamp ≡ next_stamp_of image
 
@@ -72,15 +72,15 @@ TellsSyncs before now course syncs = AreSyncs course.count before.clock now.cloc
 
 -- What `stops` says of the run: what a stop at any moment leaves was left before the call, or is sound, and as the tree after a prefix of
 -- the list that has every call made durable by then. What there was at the start is so too, at that moment.
-pub record StopsLeavePrefixes (image : Image) (before : Counts) (stops : Run → Type 0) (course : Course) : Type 0 where
-  pub starts : OpensAsPrefix SoundAs (run_in course) before.clock image
+pub record CrashesLeavePrefixes (image : Image) (before : Counts) (stops : Run → Type 0) (course : Course) : Type 0 where
+  pub starts : OpensAsPrefix ConsistentAs (run_in course) before.clock image
   pub leaves : stops (run_in course)
 
 -- ---- the end
 
 -- The medium ends sound, and as the tree after all calls of the list.
 abbrev pub EndsAfterAll : Image → Course → Type 0
-EndsAfterAll image course = SoundAs image (count_after course) (tree_after course)
+EndsAfterAll image course = ConsistentAs image (count_after course) (tree_after course)
 
 -- ---- all of them
 
@@ -93,6 +93,6 @@ pub record RunsLines (tells : Type 0) (lines : List Line) (stops : Run → Type 
   pub answers : AnswersByTree tells medium.counts medium'.counts course
   pub syncs_are : count_after course < 2 ^ 63 → TellsSyncs medium.counts medium'.counts course syncs
   pub stopped : tells → IsYoung medium.contents medium.counts medium'.counts course
-      → StopsLeavePrefixes medium.contents medium.counts stops course
+      → CrashesLeavePrefixes medium.contents medium.counts stops course
   pub ends : tells → IsYoung medium.contents medium.counts medium'.counts course → (MediumRose medium medium' → ⊥) → worn ≡ false
       → EndsAfterAll medium'.contents course

@@ -2,7 +2,7 @@
 use Rattle.std.specs.Prelude.{◌≡◌, ◌⊎◌, ℕ, Bool, true, false, IsTrue, List, is_some}
 use Rattle.std.specs.List.{list_any}
 use Rattle.nl_field.specs.CrashStates.{Rose}
-use Rattle.nl_tree.specs.Causes.{Counts, FaultRose, MayBeWorn}
+use Rattle.nl_tree.specs.Causes.{Counts, FaultRose, MayBeExhausted}
 use Rattle.nl_spec_headline.specs.Streams.{PrintsWhole, Stream}
 use Rattle.nl_spec_headline.specs.declared.lists.Ordered.{Ordered}
 
@@ -25,4 +25,4 @@ DoneStatus status failed sink sink' text =
 -- have used them up.
 pub record HaveCauses (tells : Type 0) (before now : Counts) (next_stamp : ℕ) (lost worn : Bool) : Type 0 where
   pub lost_is : tells → lost ≡ false
-  pub worn_is : worn ≡ true → MayBeWorn before now next_stamp
+  pub worn_is : worn ≡ true → MayBeExhausted before now next_stamp

@@ -3,15 +3,15 @@ use Rattle.std.specs.Prelude.{◌≡◌, ◌≤◌, ℕ, List, [], ◌++◌, Opt
 use Rattle.std.specs.Option.{option_map}
 use Rattle.nl_field.specs.CrashStates.{Rose}
 use Rattle.nl_field.specs.Page.{Image}
-use Rattle.nl_io.specs.Streams.{Writes}
+use Rattle.nl_io.specs.Streams.{WritesStream}
 use Rattle.nl_io.specs.declared.sink.SinkAnswer.{SinkAnswer}
 use Rattle.nl_io.specs.declared.sink.Sink.{Ghosts as SinkGhosts}
 use Rattle.nl_io.specs.declared.sink.SinkAnswer.TheVariants as sink
 use Rattle.nl_io.specs.declared.source.Source.{Ghosts as SourceGhosts}
 use Rattle.nl_nand.specs.declared.nand.Nand.{Ghosts as NandGhosts}
 use Rattle.nl_nand.specs.declared.geometry.Geometry.{Geometry}
-use Rattle.nl_spec_image.specs.Crash.{Run, StopsSafely}
-use Rattle.nl_spec_image.specs.Stands.{SoundAs}
+use Rattle.nl_spec_image.specs.Crash.{Run, CrashesSafely}
+use Rattle.nl_spec_image.specs.Stands.{ConsistentAs}
 use Rattle.nl_tree.specs.Causes.{Counts, FaultRose}
 
 -- the bytes that a source has left or a sink has taken, where told, and its count of faults
@@ -45,7 +45,7 @@ medium_seen g m = medium (g.geometry m) (g.contents m) (g.clock m) (g.read_fault
 
 -- What a stop leaves of a run that took the medium from the first of these to the second.
 abbrev pub stops_within : {M : Type 0} → NandGhosts M → M → M → Run → Type 0
-stops_within g old new = StopsSafely SoundAs (λ m c. g.left old m c) (λ m c. g.left new m c) (g.clock old) (g.clock new)
+stops_within g old new = CrashesSafely ConsistentAs (λ m c. g.left old m c) (λ m c. g.left new m c) (g.clock old) (g.clock new)
 
 -- a count of faults of the medium rose
 abbrev pub MediumRose : Medium → Medium → Type 0
@@ -59,13 +59,13 @@ pub record ReadsWhole (old new : Stream) (bytes : List ℕ) : Type 0 where
 -- The sink took the text, or its count rose and it took a prefix.
 pub record Prints (old new : Stream) (text : List ℕ) : Type 0 where
   pub answer : SinkAnswer
-  pub taken : Writes old.bytes new.bytes answer text
+  pub taken : WritesStream old.bytes new.bytes answer text
   pub never_falls : old.faults ≤ new.faults
   pub cause : answer ≡ sink.Failed → Rose old.faults new.faults
 
 -- the text was taken whole
 abbrev pub PrintsWhole : Stream → Stream → List ℕ → Type 0
-PrintsWhole old new text = Writes old.bytes new.bytes sink.Took text
+PrintsWhole old new text = WritesStream old.bytes new.bytes sink.Took text
 
 -- Contents and clock of a medium are as they were, and no program or erase failed. What it holds is said where it tells it.
 pub record Untouched (tells : Type 0) (old new : Medium) : Type 0 where

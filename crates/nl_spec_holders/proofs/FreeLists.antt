@@ -5,7 +5,7 @@ use Rattle.std.specs.List.{list_any}
 use Rattle.std.proofs.lemmas.Bool.{cases_eq, cases_Bool, eq-eqb, ne_eqb, eqb-true, cond-true, cond-false, and_from, and_parts, and_left, or_cases, or_left, or_right, or_from, not_from_true, not_from_false}
 use Rattle.nl_field.specs.Live.{resolve}
 use Rattle.nl_iface.specs.declared.Callback.{Callback}
-use Rattle.nl_iface.specs.Names.{Has, IsTable, LivePage, Names, beside, callbacks_beside, led, without_page}
+use Rattle.nl_iface.specs.Names.{Has, IsTableOfNames, LivePage, Names, beside, callbacks_beside, led, without_page}
 use Rattle.nl_spec_holders.proofs.Words.{Frees, IsPending, live_in}
 use Rattle.nl_spec_holders.proofs.Choices.{if_yes, if_no}
 
@@ -115,7 +115,7 @@ has_filter {X} f (y ∷ ys) x h t = by (λ k. has_filter f ys x k t) (cases_Bool
     by rest (inr e) (inl same) = absurd (subst (λ (c : Bool). cond c (Unit {0}) ⊥) (sym t ∙ (ap f (sym same) ∙ e)) tt)
     by rest (inr e) (inr k) = subst (λ zs. Has zs x) (sym (cond-false (f y) (y ∷ filter f ys) (filter f ys) e)) (rest k)
 
-pub frees-from_lists : (p : ℕ) (page : LivePage) (old new : Names) → IsTable old → OldDiffer old.pairs → live_in old p ≡ Some page → ((q : ℕ) → live_in new q ≡ without_page old.live p q)
+pub frees-from_lists : (p : ℕ) (page : LivePage) (old new : Names) → IsTableOfNames old → OldDiffer old.pairs → live_in old p ≡ Some page → ((q : ℕ) → live_in new q ≡ without_page old.live p q)
     → new.pairs ≡ beside old.pairs p → new.pending ≡ callbacks_beside old.pairs old.pending p → ((c : Callback) → IsPending new c → new.handled c.number ≡ old.handled c.number) → Frees p page old new
 frees-from_lists p page old new f differ was live pairs pending marks = record {
   was = was;

@@ -7,7 +7,7 @@ use Rattle.nl_field.specs.declared.pointer.Tag.{Tag}
 use Rattle.nl_field.specs.declared.pointer.Pointer.{Pointer}
 use Rattle.nl_iface.specs.declared.Callback.{Callback}
 use Rattle.nl_iface.specs.Holders.{IsRef, always, one, plain, tagged, times, wants, wants_tagged}
-use Rattle.nl_iface.specs.Moves.{Acknowledges, Copies, Marks}
+use Rattle.nl_iface.specs.Moves.{Acknowledges, Copies, MarksHandled}
 use Rattle.nl_iface.specs.Names.{Has, LivePage, Names, SameTables, led, told_page}
 use Rattle.nl_spec_holders.specs.Holding.{Holding, KeepsCommitted}
 use Rattle.nl_spec_holders.specs.Lists.{ListGains, ListLoses, Renames, SameBehind}
@@ -301,7 +301,7 @@ module _ (v : Holding) (t : Names) (h : Tag × Pointer) (flight : List (Tag × P
 
 -- A callback is handled: the holder of its stamp, wherever it is, has as its name the place to which the old name leads now. The
 -- transaction comes after the frozen one.
-module _ (v : Holding) (t : Names) (c : Callback) (n : ℕ) (later : v.number < n) (s : Marks c n v.names t)
+module _ (v : Holding) (t : Names) (c : Callback) (n : ℕ) (later : v.number < n) (s : MarksHandled c n v.names t)
     (running flight : List (Tag × Pointer)) (freeing : List Pointer)
     (in_running : Renames tagged wants_tagged c.stamp (led v.names c.before) v.running running)
     (in_flight : Renames tagged wants_tagged c.stamp (led v.names c.before) v.flight flight)

@@ -3,9 +3,9 @@ use Rattle.std.proofs.Common.{◌≡◌, ◌≢◌, ℕ, suc, ◌+◌, List, [],
 use Rattle.nl_field.specs.declared.pointer.Pointer.{Pointer}
 use Rattle.nl_iface.specs.Device.{AllDiffer}
 use Rattle.nl_iface.specs.Holders.{IsRef}
-use Rattle.nl_iface.specs.Names.{Drops, Gains, Has, IsTable, LivePage, Names, led}
+use Rattle.nl_iface.specs.Names.{Drops, GainsPage, Has, IsTableOfNames, LivePage, Names, led}
 use Rattle.nl_spec_holders.specs.Holding.{Holding, HoldsPages, KeepsCommitted}
-use Rattle.nl_spec_holders.specs.Laws.{AcknowledgeKeeps, CopyKeeps, CutKeeps, DecideKeeps, DoubtKeeps, DropKeeps, EraseKeeps, FreeKeeps, FreezeKeeps, HandleKeeps, InstallKeeps, Keeps, NoneHandled, NoneLeft, OldNamesDiffer, OpeningHolds, ProgramKeeps}
+use Rattle.nl_spec_holders.specs.Laws.{AcknowledgeKeeps, CopyKeeps, CutKeeps, DecideKeeps, DoubtKeeps, DropKeeps, EraseKeeps, FreeKeeps, FreezeKeeps, HandleKeeps, InstallKeeps, PreservesHolding, NoneHandled, NonePending, OldNamesDiffer, OpeningHolds, ProgramKeeps}
 use Rattle.nl_spec_holders.proofs.FreeLists.{frees-from_lists, old_differ_from}
 use Rattle.nl_spec_holders.proofs.HoldingSteps as steps
 use Rattle.nl_spec_holders.proofs.InWords.{none-left}
@@ -14,11 +14,11 @@ use Rattle.nl_spec_holders.proofs.OpeningStep.{opens-held, opens-safe}
 use Rattle.nl_spec_holders.proofs.Words.{Frees, Holds, Programs, from_words, to_words, ways_by}
 
 -- a step in the words of proofs
-keeps-by : {v w : Holding} → (Holds v → Holds w) → (Holds v → KeepsCommitted v → KeepsCommitted w) → Keeps v w
+keeps-by : {v w : Holding} → (Holds v → Holds w) → (Holds v → KeepsCommitted v → KeepsCommitted w) → PreservesHolding v w
 keeps-by h c = record { holds = λ f. from_words (h (to_words f)); committed = λ f s. c (to_words f) s }
 
 -- the page of a reference is live no longer
-frees-by : {t u : Names} {due : ℕ → Type 0} {want : LivePage → Type 0} (name : ℕ) (r : IsRef t due want name) → IsTable t → OldNamesDiffer t → Drops (led t name) t u → Frees (led t name) r.leads.0 t u
+frees-by : {t u : Names} {due : ℕ → Type 0} {want : LivePage → Type 0} (name : ℕ) (r : IsRef t due want name) → IsTableOfNames t → OldNamesDiffer t → Drops (led t name) t u → Frees (led t name) r.leads.0 t u
 frees-by {t} {u} name r table differ d = frees-from_lists (led t name) r.leads.0 t u table (old_differ_from t.pairs differ) r.leads.1 d.live d.pairs d.pending d.handled
 
 pub program_keeps : ProgramKeeps
@@ -76,5 +76,5 @@ opening_holds kept place found v table r o = (from_words (opens-held kept place 
 pub none_handled : NoneHandled
 none_handled = all-gone
 
-pub none_left : NoneLeft
+pub none_left : NonePending
 none_left = none-left

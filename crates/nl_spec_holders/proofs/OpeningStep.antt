@@ -6,12 +6,12 @@ use Rattle.nl_field.specs.declared.pointer.Pointer.{Pointer}
 use Rattle.nl_iface.specs.declared.Callback.{Callback}
 use Rattle.nl_iface.specs.Holders.{IsRef, always, plain, tagged, times, wants}
 use Rattle.nl_iface.specs.Moves.{Retains}
-use Rattle.nl_iface.specs.Names.{Has, IsTable, LivePage, Names, led}
+use Rattle.nl_iface.specs.Names.{Has, IsTableOfNames, LivePage, Names, led}
 use Rattle.nl_spec_holders.specs.Holding.{Holding, KeepsCommitted}
-use Rattle.nl_spec_holders.specs.Opening.{Opens}
+use Rattle.nl_spec_holders.specs.Opening.{OpensHolding}
 use Rattle.nl_spec_holders.proofs.Words.{Holds, IsPending, live_in}
 
-module _ (kept : List Pointer) (place : Pointer → ℕ) (found : List (ℕ × LivePage)) (v : Holding) (table : IsTable v.names) (r : Retains kept place found v.names) (o : Opens kept v) where
+module _ (kept : List Pointer) (place : Pointer → ℕ) (found : List (ℕ × LivePage)) (v : Holding) (table : IsTableOfNames v.names) (r : Retains kept place found v.names) (o : OpensHolding kept v) where
   ref : (p : Pointer) (due : ℕ → Type 0) → Has kept p → IsRef v.names due (wants p) p.name
   ref p due has = let h = r.lives p has in record {
     leads = (h.0, ap v.names.live (r.ways p has) ∙ h.1, h.2);

@@ -5,21 +5,21 @@ use Rattle.std.proofs.lemmas.Bool.{cases_eq}
 use Rattle.std.proofs.lemmas.Option.{none-some, same_Some}
 use Rattle.nl_iface.specs.declared.Callback.{Callback}
 use Rattle.nl_iface.specs.Holders.{IsRef}
-use Rattle.nl_iface.specs.Moves.{Acknowledges, Copies, IsOver, Marks, first_of}
-use Rattle.nl_iface.specs.Names.{Has, IsTable, LivePage, Names, SameTables, led, told_page, without_page}
+use Rattle.nl_iface.specs.Moves.{Acknowledges, Copies, IsHandledBy, MarksHandled, first_handled}
+use Rattle.nl_iface.specs.Names.{Has, IsTableOfNames, LivePage, Names, SameTables, led, told_page, without_page}
 use Rattle.nl_spec_holders.proofs.Words.{Frees, IsPending, Programs, live_in, ways_by}
 use Rattle.nl_spec_holders.proofs.Choices.{if_yes, if_no, apart, cases_le}
 
 -- two refs of one page lead to one place
-pub one_place : {t : Names} → IsTable t → (p q : ℕ) (d e : LivePage) → live_in t p ≡ Some d → live_in t q ≡ Some e → d.stamp ≡ e.stamp → p ≡ q
+pub one_place : {t : Names} → IsTableOfNames t → (p q : ℕ) (d e : LivePage) → live_in t p ≡ Some d → live_in t q ≡ Some e → d.stamp ≡ e.stamp → p ≡ q
 one_place f p q d e a b s = f.stamps_differ p q d e a b s
 
 -- a live page is the place of no pending callback's old name
-pub not_old : {t : Names} → IsTable t → (p : ℕ) (d : LivePage) (c : Callback) → live_in t p ≡ Some d → IsPending t c → p ≢ c.before
+pub not_old : {t : Names} → IsTableOfNames t → (p : ℕ) (d : LivePage) (c : Callback) → live_in t p ≡ Some d → IsPending t c → p ≢ c.before
 not_old {t} f p d c is has e = f.away c has (subst (λ (n : ℕ). led t n ≡ n) e (f.own p d is))
 
 -- the name of a live page is a reference to it, whatever is due
-pub ref_of_place : {t : Names} → IsTable t → (p : ℕ) (d : LivePage) (due : ℕ → Type 0) (want : LivePage → Type 0) → live_in t p ≡ Some d → want d → IsRef t due want p
+pub ref_of_place : {t : Names} → IsTableOfNames t → (p : ℕ) (d : LivePage) (due : ℕ → Type 0) (want : LivePage → Type 0) → live_in t p ≡ Some d → want d → IsRef t due want p
 ref_of_place {t} f p d due want is w = record {
   leads = (d, ap t.live (f.own p d is) ∙ is, w);
   safe = λ c n has m k. not_old f p d c is has;
@@ -46,7 +46,7 @@ module _ (p : ℕ) (page : LivePage) (old new : Names) (s : Programs p page old 
   program-pending : (c : Callback) → IsPending new c → IsPending old c
   program-pending c has = subst (λ cs. Has cs c) s.pending has
 
-  pub programs-table : IsTable old → IsTable new
+  pub programs-table : IsTableOfNames old → IsTableOfNames new
   programs-table f = record {
     stamps_differ = λ a b d e x y same. differ a b d e same (program-back a d x) (program-back b e y);
     own = λ q d is. s.ways q ∙ own q d (program-back q d is);
@@ -78,7 +78,7 @@ module _ (old new : Names) (s : SameTables old new) where
   same-pending : (c : Callback) → IsPending new c → IsPending old c
   same-pending c has = subst (λ cs. Has cs c) s.pending has
 
-  pub same-table : IsTable old → IsTable new
+  pub same-table : IsTableOfNames old → IsTableOfNames new
   same-table f = record {
     stamps_differ = λ a b d e x y same. f.stamps_differ a b d e (sym (s.live a) ∙ x) (sym (s.live b) ∙ y) same;
     own = λ q d is. ways_by old new s.pairs q ∙ f.own q d (sym (s.live q) ∙ is);
@@ -131,7 +131,7 @@ module _ (c : Callback) (old new : Names) (s : Copies c old new) where
   copy-led : (n q : ℕ) (d : LivePage) → led old n ≡ q → live_in old q ≡ Some d → live_in new (led new n) ≡ Some d
   copy-led n q d e is = ap new.live (s.ways n ∙ ap moved e) ∙ copy-kept q d is
 
-  pub copies-table : IsTable old → IsTable new
+  pub copies-table : IsTableOfNames old → IsTableOfNames new
   copies-table f = record {
     stamps_differ = λ a b d e x y same.
         let g = copy-back a d x in
@@ -195,11 +195,11 @@ module _ (c : Callback) (old new : Names) (s : Copies c old new) where
       safe d n m k (inr has) = r.safe d n has (sym (s.handled d has) ∙ m) k
 
 -- A callback counts as handled.
-module _ (c : Callback) (number : ℕ) (old new : Names) (s : Marks c number old new) where
+module _ (c : Callback) (number : ℕ) (old new : Names) (s : MarksHandled c number old new) where
   mark-pending : (d : Callback) → IsPending new d → IsPending old d
   mark-pending d has = subst (λ cs. Has cs d) s.pending has
 
-  pub marks-table : IsTable old → IsTable new
+  pub marks-table : IsTableOfNames old → IsTableOfNames new
   marks-table f = record {
     stamps_differ = λ a b d e x y same. f.stamps_differ a b d e (sym (s.live a) ∙ x) (sym (s.live b) ∙ y) same;
     own = λ q d is. ways_by old new s.pairs q ∙ f.own q d (sym (s.live q) ∙ is);
@@ -211,13 +211,13 @@ module _ (c : Callback) (number : ℕ) (old new : Names) (s : Marks c number old
   }
 
   -- A reference stays where the transaction is not due, or its name is not the old name of this callback.
-  pub marks-ref : IsTable old → (due : ℕ → Type 0) (want : LivePage → Type 0) (name : ℕ) → (due number → name ≢ c.before) → IsRef old due want name → IsRef new due want name
+  pub marks-ref : IsTableOfNames old → (due : ℕ → Type 0) (want : LivePage → Type 0) (name : ℕ) → (due number → name ≢ c.before) → IsRef old due want name → IsRef new due want name
   marks-ref f due want name may r = record {
     leads = (r.leads.0, ap new.live (ways_by old new s.pairs name) ∙ (s.live (led old name) ∙ r.leads.1), r.leads.2);
     safe = λ d n has m k. safe d n (mark-pending d has) m k (cases_eq d.number c.number);
   }
     where
-      first : (o : Option ℕ) (n : ℕ) → old.handled c.number ≡ o → first_of o number ≡ Some n → due n → name ≢ c.before
+      first : (o : Option ℕ) (n : ℕ) → old.handled c.number ≡ o → first_handled o number ≡ Some n → due n → name ≢ c.before
       first None n was m k = may (subst due (sym (same_Some number n m)) k)
       first (Some x) n was m k = r.safe c n s.has (was ∙ m) k
 
@@ -241,7 +241,7 @@ module _ (p : ℕ) (page : LivePage) (old new : Names) (s : Frees p page old new
   free-led : (n : ℕ) → led old n ≢ p → led new n ≡ led old n
   free-led n far = s.ways n ∙ if_no (led old n) p n (led old n) far
 
-  pub frees-table : IsTable old → IsTable new
+  pub frees-table : IsTableOfNames old → IsTableOfNames new
   frees-table f = record {
     stamps_differ = λ a b d e x y same. f.stamps_differ a b d e (free-back a d x).1 (free-back b e y).1 same;
     own = λ q d is. let g = free-back q d is in free-led q (λ e. g.0 (sym (f.own q d g.1) ∙ e)) ∙ f.own q d g.1;
@@ -270,18 +270,18 @@ module _ (p : ℕ) (page : LivePage) (old new : Names) (s : Frees p page old new
 
 -- Callbacks are acknowledged.
 module _ (upto : ℕ) (old new : Names) (s : Acknowledges upto old new) where
-  pub over-dec : (c : Callback) → IsOver old upto c ⊎ (IsOver old upto c → ⊥)
+  pub over-dec : (c : Callback) → IsHandledBy old upto c ⊎ (IsHandledBy old upto c → ⊥)
   over-dec c = by (old.handled c.number) refl
     where
-      by : (o : Option ℕ) → old.handled c.number ≡ o → IsOver old upto c ⊎ (IsOver old upto c → ⊥)
+      by : (o : Option ℕ) → old.handled c.number ≡ o → IsHandledBy old upto c ⊎ (IsHandledBy old upto c → ⊥)
       by None is = inr (λ h. none-some h.0 (sym is ∙ h.1))
       by (Some n) is = split (cases_le n upto)
         where
-          split : (n ≤ upto) ⊎ (n ≤ upto → ⊥) → IsOver old upto c ⊎ (IsOver old upto c → ⊥)
+          split : (n ≤ upto) ⊎ (n ≤ upto → ⊥) → IsHandledBy old upto c ⊎ (IsHandledBy old upto c → ⊥)
           split (inl le) = inl (n, is, le)
           split (inr far) = inr (λ h. far (subst (λ (x : ℕ). x ≤ upto) (same_Some h.0 n (sym h.1 ∙ is)) h.2))
 
-  pub acknowledges-table : IsTable old → IsTable new
+  pub acknowledges-table : IsTableOfNames old → IsTableOfNames new
   acknowledges-table f = record {
     stamps_differ = λ a b d e x y same. f.stamps_differ a b d e (sym (s.live a) ∙ x) (sym (s.live b) ∙ y) same;
     own = λ q d is. let h = sym (s.live q) ∙ is in s.ways q (λ c has over. not_old f q d c h has) ∙ f.own q d h;
@@ -292,8 +292,8 @@ module _ (upto : ℕ) (old new : Names) (s : Acknowledges upto old new) where
     one_name = λ c d x y e. f.one_name c d (s.only c x).0 (s.only d y).0 e;
   }
     where
-      stays : (c : Callback) → IsPending old c → (IsOver old upto c → ⊥) → led new c.before ≡ led old c.before
-      stays c has not = s.ways c.before (λ d x over e. not (subst (λ z. IsOver old upto z) (sym (f.one_name c d has x e)) over))
+      stays : (c : Callback) → IsPending old c → (IsHandledBy old upto c → ⊥) → led new c.before ≡ led old c.before
+      stays c has not = s.ways c.before (λ d x over e. not (subst (λ z. IsHandledBy old upto z) (sym (f.one_name c d has x e)) over))
 
       told : (n : ℕ) → led new n ≢ n → (d : Callback) × IsPending new d × (d.before ≡ n)
       told n far = by (cases_eq (led old n) n)
@@ -302,7 +302,7 @@ module _ (upto : ℕ) (old new : Names) (s : Acknowledges upto old new) where
           by (inl e) = absurd (far (s.ways n (λ c has over x. f.away c has (subst (λ (m : ℕ). led old m ≡ m) x e)) ∙ e))
           by (inr off) = let h = f.told n off in rest h.0 h.1 h.2 (over-dec h.0)
             where
-              rest : (c : Callback) → IsPending old c → c.before ≡ n → IsOver old upto c ⊎ (IsOver old upto c → ⊥) → (d : Callback) × IsPending new d × (d.before ≡ n)
+              rest : (c : Callback) → IsPending old c → c.before ≡ n → IsHandledBy old upto c ⊎ (IsHandledBy old upto c → ⊥) → (d : Callback) × IsPending new d × (d.before ≡ n)
               rest c has e (inl over) = absurd (far (subst (λ (m : ℕ). led new m ≡ m) e (s.gone c has over)))
               rest c has e (inr not) = (c, s.kept c has not, e)
 

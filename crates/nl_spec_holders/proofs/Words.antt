@@ -5,7 +5,7 @@ use Rattle.nl_field.specs.Live.{resolve}
 use Rattle.nl_field.specs.declared.pointer.Tag.{Tag}
 use Rattle.nl_field.specs.declared.pointer.Pointer.{Pointer}
 use Rattle.nl_iface.specs.Holders.{IsRef, always, plain, tagged, times, wants, wants_tagged}
-use Rattle.nl_iface.specs.Names.{Has, IsTable, LivePage, Names, SameTables, led, with_page, without_page}
+use Rattle.nl_iface.specs.Names.{Has, IsTableOfNames, LivePage, Names, SameTables, led, with_page, without_page}
 use Rattle.nl_iface.specs.declared.Callback.{Callback}
 use Rattle.nl_spec_holders.specs.Holding.{Holding, HoldsPages}
 
@@ -20,7 +20,7 @@ abbrev pub held : Holding → ℕ → ℕ
 held v s = times tagged s v.running + times tagged s v.flight + times plain s v.freeing
 
 pub record Holds (v : Holding) : Type 0 where
-  pub table : IsTable v.names
+  pub table : IsTableOfNames v.names
   pub running : (h : Tag × Pointer) → Has v.running h → IsRef v.names always (wants_tagged h) h.1.name
   pub flight : (h : Tag × Pointer) → Has v.flight h → IsRef v.names always (wants_tagged h) h.1.name
   pub freeing : (p : Pointer) → Has v.freeing p → IsRef v.names always (wants p) p.name

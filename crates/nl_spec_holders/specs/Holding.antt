@@ -3,7 +3,7 @@ use Rattle.std.specs.Prelude.{◌≡◌, ◌⊎◌, ℕ, ◌+◌, ◌<◌, ◌�
 use Rattle.nl_field.specs.declared.pointer.Tag.{Tag}
 use Rattle.nl_field.specs.declared.pointer.Pointer.{Pointer}
 use Rattle.nl_iface.specs.Holders.{Holders, IsHeld, IsRef, plain, tagged, times, wants}
-use Rattle.nl_iface.specs.Names.{Has, IsTable, Names}
+use Rattle.nl_iface.specs.Names.{Has, IsTableOfNames, Names}
 use Rattle.nl_iface.specs.declared.Callback.{Callback}
 
 -- The names of the device. The holders of live pages: the files of the running metadata and the pages in flight, each with its tag, and
@@ -28,7 +28,7 @@ holders_of v = record { running = v.running; flight = v.flight; freeing = v.free
 
 -- Places, names and callbacks are in order, and each live page has exactly one holder, which leads to it.
 pub record HoldsPages (v : Holding) : Type 0 where
-  pub table : IsTable v.names
+  pub table : IsTableOfNames v.names
   pub held : IsHeld v.names (holders_of v)
 
 -- Each committed pointer leads to the page of its stamp, and its name is not the old name of a callback that may be acknowledged. The
@@ -45,5 +45,5 @@ pub record KeepsCommitted (v : Holding) : Type 0 where
   pub due_awaits : v.due ≤ length v.freeing
 
 -- no callback was handled by a transaction after this one
-abbrev pub MarkedTo : Names → ℕ → Type 0
-MarkedTo names top = (c : Callback) (n : ℕ) → Has names.pending c → names.handled c.number ≡ Some n → n ≤ top
+abbrev pub HandledUpTo : Names → ℕ → Type 0
+HandledUpTo names top = (c : Callback) (n : ℕ) → Has names.pending c → names.handled c.number ≡ Some n → n ≤ top

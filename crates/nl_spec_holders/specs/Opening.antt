@@ -7,7 +7,7 @@ use Rattle.nl_iface.specs.Names.{Has, LivePage, led}
 use Rattle.nl_spec_holders.specs.Holding.{Holding}
 
 -- The running metadata is the committed one, and its pointers are those that are kept; nothing else holds a page.
-pub record Opens (kept : List Pointer) (v : Holding) : Type 0 where
+pub record OpensHolding (kept : List Pointer) (v : Holding) : Type 0 where
   pub running : (h : Tag × Pointer) → Has v.running h → Has kept h.1
   pub tags : (h : Tag × Pointer) (page : LivePage) → Has v.running h → v.names.live (led v.names h.1.name) ≡ Some page → page.tag ≡ h.0
   pub once : (s : ℕ) → times tagged s v.running ≤ 1

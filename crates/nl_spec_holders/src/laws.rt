@@ -1,5 +1,5 @@
 //! Laws of the steps of a volume: each live page is held once through them, and what is committed is kept. A function stands for each law.
-ghost use Rattle.nl_spec_holders.specs.Laws.{AcknowledgeKeeps, CopyKeeps, CutKeeps, DecideKeeps, DoubtKeeps, DropKeeps, EraseKeeps, FreeKeeps, FreezeKeeps, HandleKeeps, InstallKeeps, NoneHandled, NoneLeft, OpeningHolds, ProgramKeeps};
+ghost use Rattle.nl_spec_holders.specs.Laws.{AcknowledgeKeeps, CopyKeeps, CutKeeps, DecideKeeps, DoubtKeeps, DropKeeps, EraseKeeps, FreeKeeps, FreezeKeeps, HandleKeeps, InstallKeeps, NoneHandled, NonePending, OpeningHolds, ProgramKeeps};
 
 /// What a device does: a page is programmed, one is moved by the cleaner, a victim is begun or erased.
 pub fn device_keeps()
@@ -20,7 +20,7 @@ pub fn callbacks_keep()
     ensures handle { HandleKeeps }
     ensures acknowledge { AcknowledgeKeeps }
     ensures none_handled { NoneHandled }
-    ensures none_left { NoneLeft }
+    ensures none_left { NonePending }
 {}
 
 /// What a commit does: the running metadata is frozen, it counts, or it is not known to, and pages that are due are freed.

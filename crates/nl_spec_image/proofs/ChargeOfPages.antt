@@ -9,7 +9,7 @@ use Rattle.nl_field.specs.declared.inode.Kind.{Kind}
 use Rattle.nl_field.specs.declared.inode.Kind.TheVariants.{Unused, File, Dir}
 use Rattle.nl_field.specs.declared.pointer.Pointer.{Pointer}
 use Rattle.nl_field.specs.declared.shape.Shape.{Shape}
-use Rattle.nl_tree.specs.NodeCharges.{NamesDiffer, pages_in, entry_pages_in, ranges_in}
+use Rattle.nl_tree.specs.NodeCharges.{EntryNamesDiffer, pages_in, entry_pages_in, ranges_in}
 use Rattle.nl_tree.specs.Represents.{entries_in, node_named, Represents}
 use Rattle.nl_tree.specs.Tree.{Tree}
 use Rattle.nl_tree.specs.TreeLaws.{IsInOrder}
@@ -40,7 +40,7 @@ module _ (shape : Shape) (pages : VirtualMap) (page_of_stamp : ℕ → Option Pa
   abbrev used_numbers : List ℕ
   used_numbers = numbers_used shape pages page_of_stamp has
 
-  names_in : (n : ℕ) (rec : InodeRec) → IsNode shape pages n rec → rec.kind ≡ Dir → (es : List EntryRec) → EachTwo (λ e k. e.name ≢ k.name) es → NamesDiffer (map (λ e. (e.name, e.ino)) es)
+  names_in : (n : ℕ) (rec : InodeRec) → IsNode shape pages n rec → rec.kind ≡ Dir → (es : List EntryRec) → EachTwo (λ e k. e.name ≢ k.name) es → EntryNamesDiffer (map (λ e. (e.name, e.ino)) es)
   names_in n rec is dir [] h = tt
   names_in n rec is dir (e ∷ es) h = (by (node_named e.name (map (λ e. (e.name, e.ino)) es)) refl, names_in n rec is dir es h.1)
     where
@@ -61,19 +61,19 @@ module _ (shape : Shape) (pages : VirtualMap) (page_of_stamp : ℕ → Option Pa
       at : (i : ℕ) → Has (range_with_len 0 rec.size) i → (x : EntryRec) → entry_of (bytes_of_place pages rec i) ≡ Some x → EntryAt shape pages n i x
       at i m x a = record { rec = rec; is_node = is; is_dir = dir; below = omega (arith, (member-range i 0 rec.size m).1); spelled = a }
 
-  all_names : AllByRecursion (λ n. NamesDiffer (entries_in (g n).body)) used_numbers
+  all_names : AllByRecursion (λ n. EntryNamesDiffer (entries_in (g n).body)) used_numbers
   unfolding numbers_used
   all_names = all_by _ used_numbers (λ n m. of n (member-map (λ (x : ℕ × InodeRec). x.0) (used_nodes shape pages) n m))
     where
-      kinds : (n : ℕ) (rec : InodeRec) → IsNode shape pages n rec → (k : Kind) → rec.kind ≡ k → NamesDiffer (entries_in (body_of pages rec k))
+      kinds : (n : ℕ) (rec : InodeRec) → IsNode shape pages n rec → (k : Kind) → rec.kind ≡ k → EntryNamesDiffer (entries_in (body_of pages rec k))
       kinds n rec is Unused e = tt
       kinds n rec is File e = tt
       kinds n rec is Dir e = names_in n rec is e (entries_of_inode pages rec) (entries_two n rec is e)
 
-      of : (n : ℕ) → (x : ℕ × InodeRec) × Has (used_nodes shape pages) x × (x.0 ≡ n) → NamesDiffer (entries_in (g n).body)
+      of : (n : ℕ) → (x : ℕ × InodeRec) × Has (used_nodes shape pages) x × (x.0 ≡ n) → EntryNamesDiffer (entries_in (g n).body)
       of n r =
           let is = subst (λ (k : ℕ). IsNode shape pages k r.0.1) r.2 (used_is shape pages r.0 r.1) in
-          subst (λ (x : GraphNode). NamesDiffer (entries_in x.body)) (sym (node_is shape pages n r.0.1 is)) (kinds n r.0.1 is r.0.1.kind refl)
+          subst (λ (x : GraphNode). EntryNamesDiffer (entries_in x.body)) (sym (node_is shape pages n r.0.1 is)) (kinds n r.0.1 is r.0.1.kind refl)
 
   pointers_count : sum_by (λ n. pages_in (g n).body) used_numbers ≡ length (held_in shape pages)
   unfolding numbers_used used_nodes pointers_of

@@ -15,8 +15,8 @@ use Rattle.nl_field.specs.declared.spare.SpareRec.TheVariants.{Virtual}
 use Rattle.nl_field.specs.Members.{Has}
 use Rattle.nl_meta.proofs.Lists.{some_in, true_false, none_some, member-some, some-member, member-filter, filter-member}
 use Rattle.nl_meta.proofs.WalkProofs.{nodes_some, nodes_fit}
-use Rattle.nl_spec_image.specs.Fresh.{IsFresh, HasFreshPages, root_page, fresh_super}
-use Rattle.nl_spec_image.specs.Formatted.{formatted_root, formatted_super, IsFormatted, FormattedIsSound}
+use Rattle.nl_spec_image.specs.Fresh.{IsFreshPage, HasFreshPages, root_page, fresh_super}
+use Rattle.nl_spec_image.specs.Formatted.{formatted_root, formatted_super, IsFormatted, FormattedIsConsistent}
 use Rattle.nl_spec_image.proofs.FreshProofs.{limits, fresh_is_sound}
 use Rattle.nl_spec_image.proofs.SpareProofs.{spare_by_copies}
 
@@ -138,7 +138,7 @@ module _ (image : Image) (whole : IsTrue (is_image image)) (legal : IsTrue (is_l
   unfolding virtual_pages
   only_virtual r m = only r (member-filter (λ r. nat_lt r.page (first_physical shape) && is_virtual_rec shape r.rec) (readable_pages image) r m).0
 
-  is_fresh : (r : Readable) → (the_root ≡ r) ⊎ (the_super ≡ r) → IsFresh image r
+  is_fresh : (r : Readable) → (the_root ≡ r) ⊎ (the_super ≡ r) → IsFreshPage image r
   is_fresh r (inl e) = inl (ap (λ (q : Readable). address_on q) (sym e), ap (λ (q : Readable). stamp_on q) (sym e), ap (λ (q : Readable). q.main) (sym e))
   is_fresh r (inr e) = inr (ap (λ (q : Readable). address_on q) (sym e), ap (λ (q : Readable). stamp_on q) (sym e), ap (λ (q : Readable). q.main) (sym e))
 
@@ -171,7 +171,7 @@ module _ (image : Image) (whole : IsTrue (is_image image)) (legal : IsTrue (is_l
       apart : (n : ℕ) → n ≡ 0 → n ≡ 1 → ⊥
       apart n a b = omega arith
 
-pub formatted_is_sound : FormattedIsSound
+pub formatted_is_sound : FormattedIsConsistent
 formatted_is_sound blocks pages image whole same_blocks same_pages legal formatted =
     let of = subst (λ (n : ℕ). IsFormatted image.blocks n image) (sym same_pages) (subst (λ (n : ℕ). IsFormatted n pages image) (sym same_blocks) formatted) in
     let is = subst (λ (n : ℕ). IsTrue (is_legal image.blocks n)) (sym same_pages) (subst (λ (n : ℕ). IsTrue (is_legal n pages)) (sym same_blocks) legal) in

@@ -14,7 +14,7 @@ use Rattle.nl_meta.specs.Consistent.{Consistent}
 use Rattle.nl_meta.proofs.OnLiterals.{meta_on_literals}
 use Rattle.nl_meta.proofs.Lists.{some_in}
 use Rattle.nl_meta.proofs.WalkProofs.{walk_is_consistency}
-use Rattle.nl_spec_image.specs.Stands.{bytes_found, SoundAs}
+use Rattle.nl_spec_image.specs.Stands.{bytes_found, ConsistentAs}
 use Rattle.nl_spec_image.proofs.EmptyTree.{empty_is_tree, no_data_in}
 
 only_the_root : Represents (bytes_found fresh_image) (graph_of (shape_of_image fresh_image) (committed_of fresh_image)) empty_tree
@@ -37,7 +37,7 @@ is_whole = refl
 found : Consistent fresh_image
 found = (walk_is_consistency fresh_image).0 no_fault
 
-pub fresh_stands : SoundAs fresh_image 0 empty_tree
+pub fresh_stands : ConsistentAs fresh_image 0 empty_tree
 fresh_stands = record {
   stands = record {
     pages_whole = is_whole;

@@ -38,12 +38,12 @@ use Rattle.nl_tree.specs.Represents.{entries_in, node_named, node_reached, node_
 use Rattle.nl_tree.specs.Tree.{empty_tree}
 use Rattle.nl_meta.specs.Committed.{VirtualMap, committed_of, counting, committed, place_in, home_or_image, counts, header_at, commit_at, within_volume}
 use Rattle.nl_field.specs.Members.{Has}
-use Rattle.nl_meta.specs.Consistent.{NumbersRight, NamesPhysical, IsNode, NodesRight, PointersRight, AddressAt, AddressesRight, at_root, EntryAt, Reached, EntriesRight, IsListed, StampsRight, MetadataRight, HasRoom}
+use Rattle.nl_meta.specs.Consistent.{NumbersRight, NamesPhysical, IsNode, NodesRight, PointersRight, AddressAt, AddressesRight, at_root, EntryAt, Reached, EntriesRight, IsListed, StampsRight, MetadataRight, ImageHasRoom}
 use Rattle.nl_meta.specs.Nodes.{inode_at, bytes_of_node, bytes_at, Held, super_of_pages, is_physical_name, held_in, held_by, size_of, pointers_in, node_from, graph_of, pointers_of, entries_of_inode}
 use Rattle.nl_meta.proofs.Lists.{some_in, true_false, none_some, none-any, each-all, member-find, find-some, range-member, member-filter, filter-member, member-flat}
 use Rattle.nl_meta.proofs.WalkProofs.{nodes_some, nodes_fit, names}
-use Rattle.nl_spec_image.specs.Fresh.{FewFreshAreSound, IsFresh, HasFreshPages, root_page, fresh_super, FreshIsSound}
-use Rattle.nl_spec_image.specs.Stands.{bytes_found, SoundAs}
+use Rattle.nl_spec_image.specs.Fresh.{FewFreshAreConsistent, IsFreshPage, HasFreshPages, root_page, fresh_super, FreshIsConsistent}
+use Rattle.nl_spec_image.specs.Stands.{bytes_found, ConsistentAs}
 use Rattle.nl_spec_image.proofs.SpareProofs.{spare_by_few_pages}
 use Rattle.nl_spec_image.proofs.EmptyTree.{empty_at_root, empty_below, no_data_in, empty_is_tree}
 
@@ -148,7 +148,7 @@ module _ (image : Image) (fresh : HasFreshPages image) where
       apart : (a b : ℕ) → a ≡ 67 → b ≡ 0 → a ≡ b → ⊥
       apart a b x y z = omega arith
 
-      by : IsFresh image r → IsFresh image q → (stamp_on r ≡ stamp_on q) × (r.main ≡ q.main)
+      by : IsFreshPage image r → IsFreshPage image q → (stamp_on r ≡ stamp_on q) × (r.main ≡ q.main)
       by (inl a) (inl b) = (a.1 ∙ sym b.1, a.2 ∙ sym b.2)
       by (inr a) (inr b) = (a.1 ∙ sym b.1, a.2 ∙ sym b.2)
       by (inl a) (inr b) = absurd (apart (address_on r) (address_on q) a.0 b.0 e)
@@ -178,7 +178,7 @@ module _ (image : Image) (fresh : HasFreshPages image) where
       ap (λ (xs : List Readable). or_first_in xs (find (λ r. is_outside image.pages (virtual_spare image) r.page) xs))
       (none_kept (λ r. address_on r == v && has_greatest_stamp all_virtual r) all_virtual (λ r m. by r (fresh.no_other r m)))
     where
-      by : (r : Readable) → IsFresh image r → (address_on r == v && has_greatest_stamp all_virtual r) ≡ false
+      by : (r : Readable) → IsFreshPage image r → (address_on r == v && has_greatest_stamp all_virtual r) ≡ false
       by r (inl h) = ap (λ t. t && has_greatest_stamp all_virtual r) (ne_eqb (address_on r) v (λ e. a (sym e ∙ h.0)))
       by r (inr h) = ap (λ t. t && has_greatest_stamp all_virtual r) (ne_eqb (address_on r) v (λ e. b (sym e ∙ h.0)))
 
@@ -216,7 +216,7 @@ module _ (image : Image) (fresh : HasFreshPages image) where
       apart : (a : ℕ) → a ≡ 67 → a ≡ 0 → ⊥
       apart a x y = omega arith
 
-      by : IsFresh image fresh.super_page.0 → fresh.super_page.0.main ≡ fresh_super image.blocks image.pages
+      by : IsFreshPage image fresh.super_page.0 → fresh.super_page.0.main ≡ fresh_super image.blocks image.pages
       by (inl a) = absurd (apart (address_on fresh.super_page.0) a.0 fresh.super_page.2)
       by (inr a) = a.2
 
@@ -226,7 +226,7 @@ module _ (image : Image) (fresh : HasFreshPages image) where
       apart : (a : ℕ) → a ≡ 67 → a ≡ 0 → ⊥
       apart a x y = omega arith
 
-      by : IsFresh image fresh.root.0 → fresh.root.0.main ≡ root_page
+      by : IsFreshPage image fresh.root.0 → fresh.root.0.main ≡ root_page
       by (inl a) = a.2
       by (inr a) = absurd (apart (address_on fresh.root.0) fresh.root.2 a.0)
 
@@ -339,7 +339,7 @@ module _ (image : Image) (fresh : HasFreshPages image) where
       apart : (a b : ℕ) → a ≡ 1 → b ≡ 2 → a ≡ b → ⊥
       apart a b x y z = omega arith
 
-      by : IsFresh image r → IsFresh image q → (address_on r ≡ address_on q) × (r.main ≡ q.main)
+      by : IsFreshPage image r → IsFreshPage image q → (address_on r ≡ address_on q) × (r.main ≡ q.main)
       by (inl a) (inl b) = (a.0 ∙ sym b.0, a.2 ∙ sym b.2)
       by (inr a) (inr b) = (a.0 ∙ sym b.0, a.2 ∙ sym b.2)
       by (inl a) (inr b) = absurd (apart (stamp_on r) (stamp_on q) a.1 b.1 s)
@@ -465,7 +465,7 @@ module _ (image : Image) (fresh : HasFreshPages image) where
       (range_with_len shape.vblocks shape.pblocks) shape.vblocks (range-member shape.vblocks shape.vblocks shape.pblocks (omega arith) (omega (arith, has_physical image.blocks image.pages fresh.legal)))
       (each-all _ (physical_pages image) (λ r m. absurd (fresh.no_data r m)))).1
 
-  room : IsSome (virtual_spare image) → HasRoom image
+  room : IsSome (virtual_spare image) → ImageHasRoom image
   room spare = record {
     virtual_room = subst IsSome (sym (virtual_spare_is image)) spare;
     physical_room = subst IsSome (sym (physical_spare_is image (map (λ h. h.pointer.stamp) (held_in shape pages)))) (data_spare (map (λ h. h.pointer.stamp) (held_in shape pages)));
@@ -477,7 +477,7 @@ module _ (image : Image) (fresh : HasFreshPages image) where
   empty_depicted [] = empty_at_root ∙ ap (λ (g : GraphNode). node_of (bytes_found image) g.body) (sym root_node)
   empty_depicted (name ∷ names) = empty_below name names ∙ ap (λ (g : GraphNode). option_and_then (λ n. node_of (bytes_found image) (graph_of shape pages n).body) (option_and_then (λ m. node_reached (graph_of shape pages) m names) (node_named name (entries_in g.body)))) (sym root_node)
 
-  sound_with : IsSome (virtual_spare image) → SoundAs image 0 empty_tree
+  sound_with : IsSome (virtual_spare image) → ConsistentAs image 0 empty_tree
   unfolding metadata_right
   sound_with spare = record {
     stands = record { pages_whole = fresh.whole; metadata = metadata_right; count_of_calls = refl; is_tree = empty_is_tree; depicts = empty_depicted };
@@ -486,7 +486,7 @@ module _ (image : Image) (fresh : HasFreshPages image) where
     room = room spare;
   }
 
-pub fresh_is_sound : FreshIsSound
+pub fresh_is_sound : FreshIsConsistent
 fresh_is_sound image fresh spare = sound_with image fresh spare
 
 -- there are more than four virtual blocks
@@ -510,5 +510,5 @@ many_blocks blocks pages legal = by (cases_lt 0 (div_ceil v pages))
         absurd (none (div_ceil v pages) pages (div_ceil (blocks * pages / 16) 16 + blocks * pages / 32) h
         (omega (arith, at_least, (div_ceil_times v pages (omega (arith, (limits blocks pages legal).2))).0)))
 
-pub few_fresh_are_sound : FewFreshAreSound
+pub few_fresh_are_sound : FewFreshAreConsistent
 few_fresh_are_sound image fresh few = fresh_is_sound image fresh (spare_by_few_pages image (omega (arith, few, many_blocks image.blocks image.pages fresh.legal)))

@@ -28,8 +28,8 @@ use Rattle.nl_meta.proofs.Lists.{true_false, none_some, some_in, find-some, all-
 use Rattle.nl_meta.proofs.PointerProofs.{keys_back}
 use Rattle.nl_meta.proofs.StampProofs.{same_virtual, same_physical}
 use Rattle.nl_tree.specs.Tree.{Tree}
-use Rattle.nl_spec_image.specs.LeftIsSound.{MapStands, IsLiveFor, WhatIsLeftIsSound, committed_in}
-use Rattle.nl_spec_image.specs.Stands.{bytes_for, bytes_found, Stands, SoundAs}
+use Rattle.nl_spec_image.specs.LeftIsSound.{MapRepresents, IsLiveFor, CrashStateIsConsistent, committed_in}
+use Rattle.nl_spec_image.specs.Stands.{bytes_for, bytes_found, ImageRepresents, ConsistentAs}
 use Rattle.nl_spec_image.proofs.Counts.{few_pass}
 use Rattle.nl_spec_image.proofs.NamedPages.{IsNamed, named_member, member_named}
 use Rattle.nl_spec_image.proofs.Represented.{represents_same}
@@ -100,7 +100,7 @@ pages_are image = refl
 
 module _ (names : Names) (bytes : ℕ → List ℕ) (page_of_stamp : ℕ → Option PageOfStamp) (image : Image) (count : ℕ) (tree : Tree) (whole : IsTrue (is_image image))
     (firm : is_firm image ≡ true) (agreeing : NamedAgree (stored_in image)) (kept : LeavesPages (shape_of_image image) names bytes (stored_in image))
-    (means : MapStands (shape_of_image image) (committed_of image) page_of_stamp count tree)
+    (means : MapRepresents (shape_of_image image) (committed_of image) page_of_stamp count tree)
     (lead : (h : Held) → Has (held_in (shape_of_image image) (committed_of image)) h → IsLiveFor names bytes page_of_stamp h) where
   abbrev held : List Held
   held = held_in (shape_of_image image) (committed_of image)
@@ -174,7 +174,7 @@ module _ (names : Names) (bytes : ℕ → List ℕ) (page_of_stamp : ℕ → Opt
       ap (λ (o : Option PageOfStamp). unwrap_or (option_map (λ page. page.bytes) o) []) (lead h m).has
       ∙ sym (ap (λ (o : Option PageOfStamp). unwrap_or (option_map (λ page. page.bytes) o) []) x.1 ∙ x.2 ∙ p.main)
 
-  stands : Stands image count tree
+  stands : ImageRepresents image count tree
   unfolding metadata
   stands = record {
     pages_whole = whole;
@@ -235,7 +235,7 @@ module _ (names : Names) (bytes : ℕ → List ℕ) (page_of_stamp : ℕ → Opt
       let few = few_pass (λ h. is_lost_seen (shape_of_image image) (seen_in image) h.pointer) (λ h. h.pointer.name) held kept.stale two lost_is in
       omega (arith, few, kept.few)
 
-  pub sound_with : SoundAs image count tree
+  pub sound_with : ConsistentAs image count tree
   sound_with = record {
     stands = stands;
     own_names = own_names;
@@ -247,9 +247,9 @@ module _ (names : Names) (bytes : ℕ → List ℕ) (page_of_stamp : ℕ → Opt
     };
   }
 
-pub what_is_left_is_sound : WhatIsLeftIsSound
+pub what_is_left_is_sound : CrashStateIsConsistent
 what_is_left_is_sound names bytes page_of_stamp image count tree whole left =
     let e = map_is image in
     sound_with names bytes page_of_stamp image count tree whole (firm_here image left.firm) left.agree left.pages
-    (subst (λ (pages : VirtualMap). MapStands (shape_of_image image) pages page_of_stamp count tree) e left.stands)
+    (subst (λ (pages : VirtualMap). MapRepresents (shape_of_image image) pages page_of_stamp count tree) e left.stands)
     (subst (λ (pages : VirtualMap). (h : Held) → Has (held_in (shape_of_image image) pages) h → IsLiveFor names bytes page_of_stamp h) e left.lead)

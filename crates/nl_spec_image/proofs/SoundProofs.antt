@@ -13,8 +13,8 @@ use Rattle.nl_meta.proofs.ImageProofs.{image_is_right}
 use Rattle.nl_meta.proofs.Lists.{some_in}
 use Rattle.nl_meta.proofs.WalkProofs.{walk_is_consistency}
 use Rattle.nl_spec_image.specs.RightFor.{PagesRepresent, RightRepresents, RepresentedIsOne, RightCharges}
-use Rattle.nl_spec_image.specs.Stands.{bytes_found, Stands, Sound}
-use Rattle.nl_spec_image.specs.StandsLaws.{MetadataStands, StandsForOne, WalkIsSoundness, StandsWithCharges}
+use Rattle.nl_spec_image.specs.Stands.{bytes_found, ImageRepresents, IsConsistentImage}
+use Rattle.nl_spec_image.specs.StandsLaws.{MetadataRepresentsTree, RepresentsOneTree, WalkDecidesConsistency, RepresentedHasCharges}
 use Rattle.nl_spec_image.proofs.ChargeOfPages.{charges}
 use Rattle.nl_spec_image.proofs.TreeOfPages.{the_tree, tree_represents, is_tree}
 
@@ -33,11 +33,11 @@ right_charges shape pages page_of_stamp tree has s = charges shape pages page_of
 -- ---- an image
 
 -- an image's pages represent the tree for which it stands
-represented : (image : Image) (count : ℕ) (tree : Tree) → Stands image count tree → PagesRepresent (shape_of_image image) (committed_of image) (page_on image) tree
+represented : (image : Image) (count : ℕ) (tree : Tree) → ImageRepresents image count tree → PagesRepresent (shape_of_image image) (committed_of image) (page_on image) tree
 unfolding bytes_found
 represented image count tree s = record { is_tree = s.is_tree; depicts = s.depicts }
 
-pub metadata_stands : MetadataStands
+pub metadata_stands : MetadataRepresentsTree
 unfolding bytes_found
 metadata_stands image ok meta =
     let t = right_represents (shape_of_image image) (committed_of image) (page_on image) (image_is_right image ok meta) in
@@ -46,7 +46,7 @@ metadata_stands image ok meta =
 same_super : (shape : Shape) (pages : VirtualMap) (s t : SuperRec) → NumbersRight shape pages s → NumbersRight shape pages t → s ≡ t
 same_super shape pages s t p q = some_in s t (sym p.spelled ∙ q.spelled)
 
-pub stands_for_one : StandsForOne
+pub stands_for_one : RepresentsOneTree
 stands_for_one image count count' tree tree' s t = (
   sym s.count_of_calls
       ∙ ap (λ (r : SuperRec). r.count) (same_super (shape_of_image image) (committed_of image) s.metadata.super_rec t.metadata.super_rec s.metadata.numbers t.metadata.numbers)
@@ -54,21 +54,21 @@ stands_for_one image count count' tree tree' s t = (
   represented_is_one (shape_of_image image) (committed_of image) (page_on image) tree tree' (represented image count tree s) (represented image count' tree' t),
 )
 
-pub charges_of_image : StandsWithCharges
+pub charges_of_image : RepresentedHasCharges
 charges_of_image image count tree s = right_charges (shape_of_image image) (committed_of image) (page_on image) tree (image_is_right image s.pages_whole s.metadata) (represented image count tree s)
 
-pub walk_is_soundness : WalkIsSoundness
+pub walk_is_soundness : WalkDecidesConsistency
 walk_is_soundness image ok = (there, back)
   where
-    there : walk image ≡ None → Sound image
+    there : walk image ≡ None → IsConsistentImage image
     there e = by ((walk_is_consistency image).0 e)
       where
-        by : Consistent image → Sound image
+        by : Consistent image → IsConsistentImage image
         by c =
             let s = metadata_stands image ok c.metadata in
             (c.metadata.super_rec.count, s.0, record { stands = s.1; own_names = c.own_names; data_fits = subst (λ (n : ℕ). n ≤ (shape_of_image image).cap) (sym (charges_of_image image c.metadata.super_rec.count s.0 s.1).data_pages) c.data_fits; room = c.room })
 
-    back : Sound image → walk image ≡ None
+    back : IsConsistentImage image → walk image ≡ None
     back s =
         let a = s.2 in
         (walk_is_consistency image).1 (record {

@@ -30,6 +30,6 @@ pub record OpensAsPrefix {I : Type 0} (opens : I → ℕ → Tree → Type 0) (r
   pub sound : opens image prefix (replay run.shape run.tree (take (prefix - run.count) run.calls))
 
 -- Each image that a stop may leave was left before the run, or opens so and is of a moment from the first to the last.
-pub record StopsSafely {I : Type 0} (opens : I → ℕ → Tree → Type 0) (before left : ℕ → I → Type 0) (first last : ℕ)
+pub record CrashesSafely {I : Type 0} (opens : I → ℕ → Tree → Type 0) (before left : ℕ → I → Type 0) (first last : ℕ)
     (run : Run) : Type 0 where
   pub each : (moment : ℕ) (image : I) → left moment image → before moment image ⊎ ((first ≤ moment) × (moment ≤ last) × OpensAsPrefix opens run moment image)

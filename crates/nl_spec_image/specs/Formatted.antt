@@ -6,7 +6,7 @@ use Rattle.nl_field.specs.SpareRecord.{spare_bytes}
 use Rattle.nl_field.specs.declared.spare.SpareRec.TheVariants.{Virtual}
 use Rattle.nl_tree.specs.Tree.{empty_tree}
 use Rattle.nl_spec_image.specs.Fresh.{root_page, fresh_super}
-use Rattle.nl_spec_image.specs.Stands.{SoundAs}
+use Rattle.nl_spec_image.specs.Stands.{ConsistentAs}
 
 -- the first inode page, of an empty root: address 67, stamp 1
 unfoldable pub formatted_root : PageBytes
@@ -23,8 +23,8 @@ pub record IsFormatted (blocks pages : ℕ) (image : Image) : Type 0 where
   pub others : (p : ℕ) → 2 ≤ p → page_at image p ≡ erased
 
 -- Such an image opens as the tree with only the root, after no call.
-abbrev pub FormattedIsSound : Type 0
-FormattedIsSound =
+abbrev pub FormattedIsConsistent : Type 0
+FormattedIsConsistent =
     (blocks pages : ℕ) (image : Image) → IsTrue (is_image image) → image.blocks ≡ blocks → image.pages ≡ pages
     → IsTrue (is_legal blocks pages)
-    → IsFormatted blocks pages image → SoundAs image 0 empty_tree
+    → IsFormatted blocks pages image → ConsistentAs image 0 empty_tree

@@ -10,7 +10,7 @@ use Rattle.nl_field.specs.Medium.{Readable, shape_of_image, stamp_on, address_on
 use Rattle.nl_field.specs.Space.{virtual_spare}
 use Rattle.nl_tree.specs.Tree.{empty_tree}
 use Rattle.nl_field.specs.Members.{Has}
-use Rattle.nl_spec_image.specs.Stands.{SoundAs}
+use Rattle.nl_spec_image.specs.Stands.{ConsistentAs}
 
 -- the inode page with an empty root
 abbrev pub root_page : List ℕ
@@ -21,8 +21,8 @@ abbrev pub fresh_super : ℕ → ℕ → List ℕ
 fresh_super blocks pages = super_bytes (record { version = 1; blocks = blocks; pages = pages; count = 0 })
 
 -- the root under stamp 1, or the super page under stamp 2
-abbrev pub IsFresh : Image → Readable → Type 0
-IsFresh image r =
+abbrev pub IsFreshPage : Image → Readable → Type 0
+IsFreshPage image r =
     ((address_on r ≡ 67) × (stamp_on r ≡ 1) × (r.main ≡ root_page))
     ⊎ ((address_on r ≡ 0) × (stamp_on r ≡ 2) × (r.main ≡ fresh_super image.blocks image.pages))
 
@@ -32,12 +32,12 @@ pub record HasFreshPages (image : Image) : Type 0 where
   pub legal : IsTrue (is_legal image.blocks image.pages)
   pub root : (r : Readable) × Has (virtual_pages image) r × (address_on r ≡ 67)
   pub super_page : (r : Readable) × Has (virtual_pages image) r × (address_on r ≡ 0)
-  pub no_other : (r : Readable) → Has (virtual_pages image) r → IsFresh image r
+  pub no_other : (r : Readable) → Has (virtual_pages image) r → IsFreshPage image r
   pub no_data : (r : Readable) → Has (physical_pages image) r → ⊥
 
 -- With a spare block the pages of a fresh volume open as the tree with only the root, after no call.
-abbrev pub FreshIsSound : Type 0
-FreshIsSound = (image : Image) → HasFreshPages image → IsSome (virtual_spare image) → SoundAs image 0 empty_tree
+abbrev pub FreshIsConsistent : Type 0
+FreshIsConsistent = (image : Image) → HasFreshPages image → IsSome (virtual_spare image) → ConsistentAs image 0 empty_tree
 
 -- There is a spare block where some block can be done without: each readable page in it has a copy in another block.
 abbrev pub SpareByCopies : Type 0
@@ -53,5 +53,5 @@ abbrev pub SpareByFewPages : Type 0
 SpareByFewPages = (image : Image) → length (virtual_pages image) < (shape_of_image image).vblocks → IsSome (virtual_spare image)
 
 -- At most four readable pages of a fresh volume open as the tree with only the root, after no call.
-abbrev pub FewFreshAreSound : Type 0
-FewFreshAreSound = (image : Image) → HasFreshPages image → length (virtual_pages image) ≤ 4 → SoundAs image 0 empty_tree
+abbrev pub FewFreshAreConsistent : Type 0
+FewFreshAreConsistent = (image : Image) → HasFreshPages image → length (virtual_pages image) ≤ 4 → ConsistentAs image 0 empty_tree

@@ -16,10 +16,10 @@ use Rattle.nl_meta.specs.Committed.{VirtualMap, committed}
 use Rattle.nl_meta.specs.Consistent.{NumbersRight, PageOfStamp, RightFor}
 use Rattle.nl_meta.specs.Nodes.{Held, held_in}
 use Rattle.nl_spec_image.specs.RightFor.{PagesRepresent}
-use Rattle.nl_spec_image.specs.Stands.{SoundAs}
+use Rattle.nl_spec_image.specs.Stands.{ConsistentAs}
 
 -- A map of committed pages stands for a count of calls and a tree, with the pages that its pointers' stamps lead to.
-pub record MapStands (shape : Shape) (pages : VirtualMap) (page_of_stamp : ℕ → Option PageOfStamp) (count : ℕ) (tree : Tree) : Type 0 where
+pub record MapRepresents (shape : Shape) (pages : VirtualMap) (page_of_stamp : ℕ → Option PageOfStamp) (count : ℕ) (tree : Tree) : Type 0 where
   pub super_rec : SuperRec
   pub numbers : NumbersRight shape pages super_rec
   pub count_of_calls : super_rec.count ≡ count
@@ -43,12 +43,12 @@ pub record LeavesTree (shape : Shape) (names : Names) (bytes : ℕ → List ℕ)
   pub firm : c.firm ≡ true
   pub agree : NamedAgree c
   pub pages : LeavesPages shape names bytes c
-  pub stands : MapStands shape (committed_in shape c) page_of_stamp count tree
+  pub stands : MapRepresents shape (committed_in shape c) page_of_stamp count tree
   pub lead : (h : Held) → Has (held_in shape (committed_in shape c)) h → IsLiveFor names bytes page_of_stamp h
 
 -- Each image that stores this is sound, as this tree after so many calls.
-abbrev pub WhatIsLeftIsSound : Type 0
-WhatIsLeftIsSound =
+abbrev pub CrashStateIsConsistent : Type 0
+CrashStateIsConsistent =
     (names : Names) (bytes : ℕ → List ℕ) (page_of_stamp : ℕ → Option PageOfStamp) (image : Image) (count : ℕ) (tree : Tree)
     → IsTrue (is_image image) → LeavesTree (shape_of_image image) names bytes page_of_stamp (stored_in image) count tree
-    → SoundAs image count tree
+    → ConsistentAs image count tree

@@ -10,11 +10,11 @@ use Rattle.nl_field.specs.declared.pointer.Tag.{Tag}
 use Rattle.nl_field.specs.declared.seen.Seen.{Seen}
 use Rattle.nl_field.specs.declared.shape.Shape.{Shape}
 use Rattle.nl_flight.specs.Flight.{InFlight, IsFlight, carried, nothing}
-use Rattle.nl_spec_holders.specs.Opening.{Opens}
+use Rattle.nl_spec_holders.specs.Opening.{OpensHolding}
 use Rattle.nl_iface.specs.Device.{IsVolumeShape}
 use Rattle.nl_iface.specs.Holders.{tagged, times}
 use Rattle.nl_iface.specs.Moves.{Retains}
-use Rattle.nl_iface.specs.Names.{Has, IsNames, IsTable, led}
+use Rattle.nl_iface.specs.Names.{Has, IsNames, IsTableOfNames, led}
 use Rattle.nl_iface.specs.Space.{CanLand}
 use Rattle.nl_iface.specs.Stored.{NoneFailed}
 use Rattle.nl_iface.specs.declared.Callback.{Callback}
@@ -25,7 +25,7 @@ use Rattle.nl_meta.specs.Nodes.{Held, held_in}
 use Rattle.nl_meta.specs.PointerLists.{with_tag}
 use Rattle.nl_meta_running.specs.Running.{running_on}
 use Rattle.nl_meta_running.proofs.Holds.{bounds-of}
-use Rattle.nl_journal_commit.specs.Completing.{IsOpen}
+use Rattle.nl_journal_commit.specs.Completing.{AwaitsCommitPage}
 use Rattle.nl_journal_commit.specs.Holding.{running_holders}
 use Rattle.nl_journal_commit.specs.Standing.{IsJournaled}
 use Rattle.nl_spec_commits.specs.Committed.{read_as}
@@ -37,7 +37,7 @@ use Rattle.nl_recover.specs.Recovering.{IsWalked}
 use Rattle.nl_recover.specs.Starting.{Starts}
 use Rattle.nl_recover.specs.declared.opening.Walked.{Walked}
 use Rattle.nl_recover.proofs.StartFacts.{walked_starts}
-use Rattle.nl_core.specs.Core.{HasFree, HasSpace, IsCore}
+use Rattle.nl_core.specs.Core.{FreeAreUnused, HasSpace, IsCore}
 use Rattle.nl_core.specs.declared.state.Core.{Core}
 
 none_carried : length (carried nothing) ≡ 0
@@ -57,7 +57,7 @@ none_of f (x ∷ xs) is = absurd (let no : ⊥ = cc in no)
 pub record IsIdle {D : Type 0} (g : Ghosts D) (s : D) : Type 0 where
   pub formed : g.formed s
   pub volume : IsVolumeShape (g.shape s)
-  pub table : IsTable (g.names s)
+  pub table : IsTableOfNames (g.names s)
   pub numbers : IsNames (g.shape s) (g.next_stamp s) (g.names s)
   pub no_live : (p : ℕ) → (g.names s).live p ≡ None
   pub own : (n : ℕ) → led (g.names s) n ≡ n
@@ -116,13 +116,13 @@ module _ {D : Type 0} (g : Ghosts D) (s : D) (seen : List Seen) (w : Walked) (fr
       apart = starts.apart;
     }
 
-    shut : IsOpen w.journal w.meta.frozen → ⊥
+    shut : AwaitsCommitPage w.journal w.meta.frozen → ⊥
     shut more = let few = starts.decided in let no : ⊥ = omega (arith, more, few) in no
 
     bounds : ShapeBounds (g.shape s)
     bounds = bounds-of (g.shape s) idle.volume
 
-    free : HasFree g core_over
+    free : FreeAreUnused g core_over
     free = record {
       count_nodes = is.spaces.nodes;
       count_pool = let first = is.spaces.first in let pool = is.spaces.pool in let all = bounds.addresses in omega (arith, first, pool, all);
@@ -152,7 +152,7 @@ module _ {D : Type 0} (g : Ghosts D) (s : D) (seen : List Seen) (w : Walked) (fr
       count = idle.count;
     }
 
-    opening : Opens [] (opened g s w.journal w.meta)
+    opening : OpensHolding [] (opened g s w.journal w.meta)
     opening = record {
       running = λ h has. absurd (subst (λ (xs : List (Tag × Pointer)). Has xs h) none_held has);
       tags = λ h page has live. absurd (subst (λ (xs : List (Tag × Pointer)). Has xs h) none_held has);

@@ -9,7 +9,7 @@ use Rattle.nl_field.specs.Numbers.{shape_for}
 use Rattle.nl_field.specs.declared.shape.Shape.{Shape}
 use Rattle.nl_iface.specs.Calls.{StoresPages}
 use Rattle.nl_iface.specs.Device.{IsVolumeShape}
-use Rattle.nl_iface.specs.Names.{IsNames, IsTable, LivePage, Names}
+use Rattle.nl_iface.specs.Names.{IsNames, IsTableOfNames, LivePage, Names}
 use Rattle.nl_iface.specs.Stored.{NamedAgree, NamedPage}
 use Rattle.nl_testkit_still.specs.Laws.{was_some}
 use Rattle.nl_testkit_still.specs.Stands.{IsStill}
@@ -36,7 +36,7 @@ agree s f p q a b is_a is_b same =
     let one : p ≡ q = f.differ p q x.0 y.0 x.1 y.1 (ap (λ (n : NamedPage). n.stamp) x.2 ∙ (same ∙ sym (ap (λ (n : NamedPage). n.stamp) y.2))) in
     same_Some a b (sym is_a ∙ (ap (λ n. named_at s.labels.items s.pages.items n) one ∙ is_b))
 
-pub can_begin : (numbers : Shape) (s : Still) → idle.IsIdle numbers s → IsVolumeShape s.shape → IsTable (names_of s) → IsNames s.shape s.next (names_of s) → (ghosts.tells → StoresPages ghosts s) → IsIdle ghosts s
+pub can_begin : (numbers : Shape) (s : Still) → idle.IsIdleStill numbers s → IsVolumeShape s.shape → IsTableOfNames (names_of s) → IsNames s.shape s.next (names_of s) → (ghosts.tells → StoresPages ghosts s) → IsIdle ghosts s
 can_begin numbers s is volume table names stores = record {
   formed = is.formed;
   volume = volume;
@@ -54,7 +54,7 @@ can_begin numbers s is volume table names stores = record {
 }
 
 -- after a call that leaves its names
-pub idle_on : (numbers : Shape) (s t : Still) → idle.IsIdle numbers s → IsStill t → t.shape ≡ s.shape → names_of t ≡ names_of s → t.failed ≡ s.failed → idle.IsIdle numbers t
+pub idle_on : (numbers : Shape) (s t : Still) → idle.IsIdleStill numbers s → IsStill t → t.shape ≡ s.shape → names_of t ≡ names_of s → t.failed ≡ s.failed → idle.IsIdleStill numbers t
 idle_on numbers s t is formed shape names failed = record {
   formed = formed;
   same = shape ∙ is.same;

@@ -6,7 +6,7 @@ use Rattle.nl_testkit_still.specs.Still.{live_at}
 use Rattle.nl_testkit_still.specs.declared.still.Still.{Still}
 
 -- The memory has these numbers, no page is live, and no erase failed.
-pub record IsIdle (numbers : Shape) (s : Still) : Type 0 where
+pub record IsIdleStill (numbers : Shape) (s : Still) : Type 0 where
   pub formed : IsStill s
   pub same : s.shape ≡ numbers
   pub none : (p : ℕ) → live_at s.live.items p ≡ None

@@ -5,7 +5,7 @@ ghost use Rattle.nl_field.specs.Numbers.{ShapeBounds};
 ghost use Rattle.nl_flight.specs.Flight.{IsFlight, nothing};
 ghost use Rattle.nl_iface.specs.Device.{IsVolumeShape};
 ghost use Rattle.nl_recover.specs.Recovering.{IsWalked};
-ghost use Rattle.nl_test_core_still.specs.Idle.{IsIdle};
+ghost use Rattle.nl_test_core_still.specs.Idle.{IsIdleStill};
 
 use nl_core::Core;
 use nl_field::{FailList, Memory, PageBuf, PointerList, Shape, VirtualWrite};
@@ -63,7 +63,7 @@ fn opened(
     scan: &ScanTables,
     room: Room,
 ) -> Result<Core<Still>, Memory>
-    requires idle { IsIdle shape still }
+    requires idle { IsIdleStill shape still }
     requires flight { room.flight ≡ nothing }
     requires freeing { room.freeing.items ≡ [] }
     requires room { shape.pblocks * shape.pages ≤ room.freeing.room }
@@ -87,7 +87,7 @@ fn begun(
     walked: Walked,
     room: Room,
 ) -> Result<Core<Still>, Memory>
-    requires idle { IsIdle shape still }
+    requires idle { IsIdleStill shape still }
     requires walked { IsWalked ⟦<Still as Counts>⟧ still scan.now.seen walked }
     requires flight { room.flight ≡ nothing }
     requires freeing { room.freeing.items ≡ [] }
@@ -105,7 +105,7 @@ fn begun(
 fn formatted(alloc: Global, shape: Shape) -> Result<Still, Memory>
     requires volume { IsVolumeShape shape }
     requires bounds { ShapeBounds shape }
-    ensures { IfOk result (IsIdle shape) }
+    ensures { IfOk result (IsIdleStill shape) }
 {
     let mut buf = PageBuf::new(alloc)?;
     let mut still = Still::new(alloc, shape)?;
@@ -125,8 +125,8 @@ fn formatted(alloc: Global, shape: Shape) -> Result<Still, Memory>
 
 /// Writes the page of an address. Whether it was written.
 fn put(still: &mut Still, shape: &Shape, vaddr: u32, buf: &PageBuf) -> bool
-    requires idle { IsIdle shape.now still.old }
-    ensures idle { IsTrue result → IsIdle shape.now still.new }
+    requires idle { IsIdleStill shape.now still.old }
+    ensures idle { IsTrue result → IsIdleStill shape.now still.new }
 {
     if vaddr >= shape.vaddrs || still.next_stamp() > 1_000 {
         return false;
@@ -155,7 +155,7 @@ fn begin(
     flight: Flight,
     freeing: PointerList,
 ) -> Core<Still>
-    requires idle { IsIdle shape still }
+    requires idle { IsIdleStill shape still }
     requires walked { IsWalked ⟦<Still as Counts>⟧ still scan.now.seen walked }
     requires kept { walked.kept.items ≡ [] }
     requires flight { flight ≡ nothing }

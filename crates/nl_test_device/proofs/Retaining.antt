@@ -4,7 +4,7 @@ use Rattle.std.specs.Prelude.{◌+◌, ◌*◌, ◌≤◌, Bool, length, filter,
 use Rattle.std.specs.List.{AllPairs}
 use Rattle.nl_field.specs.declared.pointer.Pointer.{Pointer}
 use Rattle.nl_device.specs.Kept.{has_stamp, place_among, spare_among}
-use Rattle.nl_device.specs.Retain.{is_lost, owns_name, place_for, spare_for}
+use Rattle.nl_device.specs.Retain.{is_stale, owns_name, place_for, spare_for}
 use Rattle.nl_test_device.specs.Reopened.{CanOpen, of_least, three}
 
 each_of : {X : Type 0} (P : X → Type 0) (a b c : X) → P a → P b → P c → All P (a ∷ b ∷ c ∷ [])
@@ -31,7 +31,7 @@ names_differ first second a b c = each_two (λ (p q : Pointer). p.name ≢ q.nam
 -- beside these pages, where each of the three has its place and owns its name
 can_open : (first : ℕ) (fives : Bool) (count one two : ℕ) → first + count ≤ 35 → IsSome (spare_for (of_least first fives count) (three one two))
     → All (λ p. IsSome (place_for (of_least first fives count) (three one two) p)) (three one two) → one ≢ two → one ≢ 288 → two ≢ 288
-    → All (λ p. owns_name (of_least first fives count) p ≡ true) (three one two) → length (filter (is_lost (of_least first fives count)) (three one two)) ≤ 3 * 32 → CanOpen first fives count one two
+    → All (λ p. owns_name (of_least first fives count) p ≡ true) (three one two) → length (filter (is_stale (of_least first fives count)) (three one two)) ≤ 3 * 32 → CanOpen first fives count one two
 can_open first fives count one two few spare placed a b c own lost = record {
   few = few;
   can = record {

@@ -16,7 +16,7 @@ use Rattle.nl_meta.specs.Pages.{Frozen, IsPages, Pages, dirty_pages, is_dirty, n
 use Rattle.nl_journal.specs.Outcomes.{bytes_of}
 use Rattle.nl_journal.specs.Opening.{Opened}
 use Rattle.nl_journal.specs.Progress.{IsPhase, Progress}
-use Rattle.nl_journal.specs.Standing.{InOrder}
+use Rattle.nl_journal.specs.Standing.{JournalInOrder}
 use Rattle.nl_journal.specs.Transaction.{IsTransaction}
 use Rattle.nl_journal.specs.declared.answers.Phase.{Phase}
 use Rattle.nl_journal.specs.declared.answers.Phase.TheVariants.{Header}
@@ -65,7 +65,7 @@ five-transaction pages is count dirty =
 
 pub begun-order : {D : Type 0} (g : Ghosts D) (s t : D) (p : Progress) (frozen : Frozen) → g.shape s ≡ shape_for 32 32 → NoneFailed (g.shape s).vaddrs (g.failed s)
     → p.phase ≡ Header → frozen.addresses ≡ []
-    → (g.tells → counting (g.shape s) (bytes_of (g.map s)) ≡ None) → (g.tells → p.number + 1 ≡ next_number (g.shape t) (bytes_of (g.map t))) → KeepsVirtual g s t → InOrder g t p frozen
+    → (g.tells → counting (g.shape s) (bytes_of (g.map s)) ≡ None) → (g.tells → p.number + 1 ≡ next_number (g.shape t) (bytes_of (g.map t))) → KeepsVirtual g s t → JournalInOrder g t p frozen
 begun-order g s t p frozen numbers none header empty nothing number keeps =
     let volume = least-volume (g.shape s) numbers in
     (stays g s t p frozen volume

@@ -4,7 +4,7 @@ ghost use Rattle.nl_meta.specs.Pages.{with_address};
 ghost use Rattle.nl_nand.specs.Memory.{contents_of, geometry_of};
 ghost use Rattle.nl_iface.specs.Stored.{NoneFailed};
 ghost use Rattle.nl_nand.specs.Nand.{IsBlank};
-ghost use Rattle.nl_test_device_pages.specs.Standing.{Stands};
+ghost use Rattle.nl_test_device_pages.specs.Standing.{IsLeastDevice};
 
 use crate::device::{blank, started};
 use nl_device::{Device, Started};
@@ -50,7 +50,7 @@ pub fn stopped_at(alloc: Global, operation: u64, cut: Cut) -> Result<Stopped, Me
 fn begin(alloc: Global, media: MemNand) -> Result<Volume, Memory>
     requires numbers { geometry_of media ≡ record { blocks = 32; pages = 32 } }
     requires erased { IsBlank (contents_of media) }
-    ensures { IfOk result (λ v. Stands ⟦<Device<MemNand> as Counts>⟧ v.device v.journal v.meta) }
+    ensures { IfOk result (λ v. IsLeastDevice ⟦<Device<MemNand> as Counts>⟧ v.device v.journal v.meta) }
 {
     let mut device = started(alloc, media)?;
     match make_beside(alloc, &mut device) {
@@ -81,7 +81,7 @@ fn make_beside(alloc: Global, device: &mut Device<MemNand>) -> Result<Beside, Me
     requires idle { (⟦<Device<MemNand> as Counts>⟧.names device.old).pending ≡ [] }
     requires none_failed { NoneFailed (⟦<Device<MemNand> as Counts>⟧.shape device.old).vaddrs
         (⟦<Device<MemNand> as Counts>⟧.failed device.old) }
-    ensures { IfOk result (λ b. Stands ⟦<Device<MemNand> as Counts>⟧ device.new b.journal b.meta) }
+    ensures { IfOk result (λ b. IsLeastDevice ⟦<Device<MemNand> as Counts>⟧ device.new b.journal b.meta) }
 {
     let mut journal = Journal::new(alloc)?;
     match shape_of(32, 32) {
@@ -98,8 +98,8 @@ fn make_beside(alloc: Global, device: &mut Device<MemNand>) -> Result<Beside, Me
 
 // Commits the pages, each of which begins with this byte. Whether it was done.
 fn commit_all(volume: &mut Volume, byte: u8) -> bool
-    requires { Stands ⟦<Device<MemNand> as Counts>⟧ volume.old.device volume.old.journal volume.old.meta }
-    ensures { IsTrue result → Stands ⟦<Device<MemNand> as Counts>⟧ volume.new.device volume.new.journal volume.new.meta }
+    requires { IsLeastDevice ⟦<Device<MemNand> as Counts>⟧ volume.old.device volume.old.journal volume.old.meta }
+    ensures { IsTrue result → IsLeastDevice ⟦<Device<MemNand> as Counts>⟧ volume.new.device volume.new.journal volume.new.meta }
 {
     if volume.device.next_stamp() > 10_000 {
         return false;

@@ -9,11 +9,11 @@ use Rattle.nl_nand.specs.declared.geometry.Geometry.{Geometry}
 use Rattle.nl_nand.specs.Nand.{IsBlank}
 use Rattle.nl_pseg.specs.Segment.{Physical, IsDead, IsPhysicalOf}
 use Rattle.nl_pseg.specs.declared.held.Held.{Held}
-use Rattle.nl_vseg.specs.Segment.{Segment, SameSize, KeepsSpare, IsSegmentOf}
+use Rattle.nl_vseg.specs.Segment.{Segment, SameSize, SegmentHasUnmapped, IsSegmentOf}
 use Rattle.nl_vseg.specs.declared.place.Place.{Place}
-use Rattle.nl_test_device_segments.specs.Rigs.{HasAddresses, HasNames, IsLeast}
+use Rattle.nl_test_device_segments.specs.Rigs.{HasAddresses, HasNames, IsLeastVolume}
 
-pub least : (shape : Shape) → shape ≡ shape_for 32 32 → IsLeast shape
+pub least : (shape : Shape) → shape ≡ shape_for 32 32 → IsLeastVolume shape
 unfolding shape_for
 least shape is = record {
   legal = subst (λ (s : Shape). IsTrue (is_legal s.blocks s.pages)) (sym is) refl;
@@ -29,7 +29,7 @@ all_none zero i = refl
 all_none (suc n) zero = refl
 all_none (suc n) (suc i) = all_none n i
 
-pub new_names : (shape : Shape) (geometry : Geometry) (image : Image) (seg : Physical) → IsLeast shape → geometry ≡ record { blocks = 32; pages = 32 } → IsBlank image → seg.held ≡ replicate (shape.blocks * shape.pages) None → seg.first ≡ shape.vblocks
+pub new_names : (shape : Shape) (geometry : Geometry) (image : Image) (seg : Physical) → IsLeastVolume shape → geometry ≡ record { blocks = 32; pages = 32 } → IsBlank image → seg.held ≡ replicate (shape.blocks * shape.pages) None → seg.first ≡ shape.vblocks
     → seg.blocks ≡ shape.blocks → seg.size ≡ shape.pages → HasNames geometry image seg
 new_names shape geometry image seg least_is numbers blank held first blocks size = record {
   numbers = numbers;
@@ -44,7 +44,7 @@ new_names shape geometry image seg least_is numbers blank held first blocks size
 }
 
 -- no page of a new segment is live
-pub new_dead : (shape : Shape) (seg : Physical) (page : ℕ) → IsLeast shape → seg.held ≡ replicate (shape.blocks * shape.pages) None → seg.first ≡ shape.vblocks → seg.blocks ≡ shape.blocks → seg.size ≡ shape.pages → seg.pairs ≡ [] → seg.victim ≡ None → 256 ≤ page → page < 1024 → IsDead seg page
+pub new_dead : (shape : Shape) (seg : Physical) (page : ℕ) → IsLeastVolume shape → seg.held ≡ replicate (shape.blocks * shape.pages) None → seg.first ≡ shape.vblocks → seg.blocks ≡ shape.blocks → seg.size ≡ shape.pages → seg.pairs ≡ [] → seg.victim ≡ None → 256 ≤ page → page < 1024 → IsDead seg page
 new_dead shape seg page least_is held first blocks size pairs victim from below =
     let f = first ∙ least_is.first in
     let b = blocks ∙ least_is.blocks in
@@ -58,8 +58,8 @@ new_dead shape seg page least_is held first blocks size pairs victim from below 
       apart = λ at. none-some (page / seg.size) (sym victim ∙ at);
     }
 
-pub new_addresses : (shape : Shape) (geometry : Geometry) (image : Image) (seg : Segment) → IsLeast shape → geometry ≡ record { blocks = 32; pages = 32 } → IsBlank image → seg.places ≡ replicate shape.vaddrs None → seg.pages ≡ shape.pages
-    → seg.bound ≡ shape.vblocks * shape.pages → KeepsSpare seg → HasAddresses geometry image seg
+pub new_addresses : (shape : Shape) (geometry : Geometry) (image : Image) (seg : Segment) → IsLeastVolume shape → geometry ≡ record { blocks = 32; pages = 32 } → IsBlank image → seg.places ≡ replicate shape.vaddrs None → seg.pages ≡ shape.pages
+    → seg.bound ≡ shape.vblocks * shape.pages → SegmentHasUnmapped seg → HasAddresses geometry image seg
 new_addresses shape geometry image seg least_is numbers blank places pages bound spare = record {
   numbers = numbers;
   addresses = ap (λ (l : List (Option Place)). length l) places ∙ (length-replicate shape.vaddrs None ∙ least_is.addresses);
@@ -74,7 +74,7 @@ new_addresses shape geometry image seg least_is numbers blank places pages bound
   };
 }
 
-pub kept_addresses : (old new : Geometry) (before after : Image) (seg next : Segment) → HasAddresses old before seg → new ≡ old → SameSize seg next → KeepsSpare next → IsSegmentOf after next → HasAddresses new after next
+pub kept_addresses : (old new : Geometry) (before after : Image) (seg next : Segment) → HasAddresses old before seg → new ≡ old → SameSize seg next → SegmentHasUnmapped next → IsSegmentOf after next → HasAddresses new after next
 kept_addresses old new before after seg next is same size spare segment = record {
   numbers = same ∙ is.numbers;
   addresses = size.addresses ∙ is.addresses;

@@ -5,10 +5,10 @@ use Rattle.nl_field.specs.Page.{Image}
 use Rattle.nl_field.specs.declared.shape.Shape.{Shape}
 use Rattle.nl_nand.specs.declared.geometry.Geometry.{Geometry}
 use Rattle.nl_pseg.specs.Segment.{Physical, IsPhysicalOf}
-use Rattle.nl_vseg.specs.Segment.{Segment, Fits, IsSegmentOf, KeepsSpare}
+use Rattle.nl_vseg.specs.Segment.{Segment, FitsSegment, IsSegmentOf, SegmentHasUnmapped}
 
 -- the numbers of the least volume
-pub record IsLeast (shape : Shape) : Type 0 where
+pub record IsLeastVolume (shape : Shape) : Type 0 where
   pub legal : IsTrue (is_legal shape.blocks shape.pages)
   pub numbers : shape ≡ shape_for shape.blocks shape.pages
   pub addresses : shape.vaddrs ≡ 103
@@ -20,8 +20,8 @@ pub record IsLeast (shape : Shape) : Type 0 where
 pub record HasAddresses (geometry : Geometry) (image : Image) (seg : Segment) : Type 0 where
   pub numbers : geometry ≡ record { blocks = 32; pages = 32 }
   pub addresses : length seg.places ≡ 103
-  pub fits : Fits geometry seg
-  pub spare : KeepsSpare seg
+  pub fits : FitsSegment geometry seg
+  pub spare : SegmentHasUnmapped seg
   pub segment : IsSegmentOf image seg
 
 -- a segment of named pages in blocks 8 to 31

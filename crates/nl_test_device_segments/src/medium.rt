@@ -1,6 +1,6 @@
 //! The least volume.
 ghost use Rattle.std.specs.Prelude.{◌≡◌, IfOk};
-ghost use Rattle.nl_test_device_segments.specs.Rigs.{IsLeast};
+ghost use Rattle.nl_test_device_segments.specs.Rigs.{IsLeastVolume};
 ghost use Rattle.nl_nand.specs.Memory.{contents_of, geometry_of};
 ghost use Rattle.nl_nand.specs.Nand.{IsBlank};
 
@@ -10,7 +10,7 @@ use std::alloc::Global;
 
 /// The numbers of the least volume.
 pub fn least() -> Result<Shape, Memory>
-    ensures { IfOk result IsLeast }
+    ensures { IfOk result IsLeastVolume }
 {
     match shape_of(32, 32) {
         Some(shape) => Ok(shape),

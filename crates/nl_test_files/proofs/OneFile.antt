@@ -8,7 +8,7 @@ use Rattle.nl_field.specs.declared.inode.InodeRec.{InodeRec}
 use Rattle.nl_field.specs.declared.pointer.Pointer.{Pointer}
 use Rattle.nl_field.specs.declared.pointer.Tag.{Tag}
 use Rattle.nl_field.specs.declared.shape.Shape.{Shape}
-use Rattle.nl_iface.specs.Calls.{OnlyReads, Places, next_page}
+use Rattle.nl_iface.specs.Calls.{OnlyReads, PlacesNewPage, next_page}
 use Rattle.nl_iface.specs.Holders.{IsRef, always, wants_tagged}
 use Rattle.nl_iface.specs.Names.{Has, LivePage, Names, SameTables, led, with_page}
 use Rattle.nl_iface.specs.declared.Callback.{Callback}
@@ -25,8 +25,8 @@ use Rattle.nl_indirect.specs.Ranges.{HasPointers, HasRange, address_of, range_of
 use Rattle.nl_indirect.specs.Storing.{StoresPointer}
 use Rattle.nl_indirect.proofs.Pointing.{address-node, address-range, at-node, in-range, no-page, runs, same-page}
 use Rattle.nl_files.specs.Cutting.{AreOfPool, Cuts, CutsPointers, LosesAddress}
-use Rattle.nl_files.specs.Installing.{FreeAreNew, Installs, Takes}
-use Rattle.nl_files.specs.Standing.{FileStands, KeepsRunning, LoadsOwn, PointersLead, device_map, running_map, tag_of}
+use Rattle.nl_files.specs.Installing.{FreeAreNewToFile, Installs, TakesLeastAddress}
+use Rattle.nl_files.specs.Standing.{FileIsAtHand, KeepsRunning, LoadsOwn, PointersLead, device_map, running_map, tag_of}
 use Rattle.nl_files.proofs.Keeping.{resident-pointers}
 use Rattle.nl_files.proofs.StandingOn.{Goes, goes-cut, goes-stored, slot}
 use Rattle.nl_test_files.proofs.Dirty.{few-besides}
@@ -43,7 +43,7 @@ module _ {D : Type 0} (g : Ghosts D) (s t : D) (idle : (g.names s).pending ≡ [
   none-pending names e c h = subst (λ (cs : List Callback). Has cs c) e h
 
   -- a page that was placed
-  module _ (tag : Tag) (main : List ℕ) (at : Pointer) (places : Places g tag main 0 (g.names s) s t at) where
+  module _ (tag : Tag) (main : List ℕ) (at : Pointer) (places : PlacesNewPage g tag main 0 (g.names s) s t at) where
     pub placed-idle : (g.names t).pending ≡ []
     placed-idle = places.names.pending ∙ idle
 
@@ -119,7 +119,7 @@ room-for p v few = last (v == 0) (is_dirty p v) (lt-ltb (length (besides_0 p.dir
     last false false e = e
 
 module _ {D : Type 0} (g : Ghosts D) (s : D) (p : Pages) (free : Spaces) (rec : InodeRec) (h : HasFile g s p free rec) where
-  pub file-stands : FileStands g s rec p
+  pub file-stands : FileIsAtHand g s rec p
   file-stands = record {
     count = h.count ∙ sym h.addresses;
     clean = λ t. clean-any (device_map g s) p h.unwritten;
@@ -198,7 +198,7 @@ module _ {D : Type 0} (g : Ghosts D) (s : D) (p : Pages) (free : Spaces) (rec : 
       high : a < 103
       high = let b = set-below free.pool (a - free.first) parts.1 in let e = h.first in let c = h.pool in let l = low in omega (arith, b, e, c, l)
 
-  pub free-new : length p.dirty ≤ 60 → FreeAreNew free p rec
+  pub free-new : length p.dirty ≤ 60 → FreeAreNewToFile free p rec
   free-new few a f =
       let b = free-low a f in
       record {
@@ -217,7 +217,7 @@ module _ {D : Type 0} (g : Ghosts D) (s : D) (p : Pages) (free : Spaces) (rec : 
 
 -- ---- after an install
 
-taken-still : (f t : Spaces) (fresh : Option ℕ) (x : ℕ) → Takes fresh f t → IsTaken f x → IsTaken t x
+taken-still : (f t : Spaces) (fresh : Option ℕ) (x : ℕ) → TakesLeastAddress fresh f t → IsTaken f x → IsTaken t x
 taken-still f t None x takes k = subst (λ (z : Spaces). IsTaken z x) (sym takes) k
 taken-still f t (Some a) x takes k = record { low = k.low; high = k.high; taken = by (nat_le f.first x) refl (cases_eq (x - f.first) (a - f.first)) }
   where
@@ -249,7 +249,7 @@ file-taken g s p f t rec (Some a) least becomes h = record {
 }
 
 -- the address that is taken is one of the pool, and not free any more
-fresh-taken : (f t : Spaces) (a : ℕ) → f.first ≡ 71 → length f.pool ≡ 32 → Takes (Some a) f t → IsTaken t a
+fresh-taken : (f t : Spaces) (a : ℕ) → f.first ≡ 71 → length f.pool ≡ 32 → TakesLeastAddress (Some a) f t → IsTaken t a
 fresh-taken f t a first pool takes = record { low = low; high = high; taken = ap (λ (b : ℕ). nat_le b a && is_free t.pool (a - b)) takes.1.first ∙ ap (λ c. nat_le f.first a && c) takes.1.pool.at ∙ and-false (nat_le f.first a) }
   where
     parts : (nat_le f.first a ≡ true) × (is_free f.pool (a - f.first) ≡ true)
@@ -290,7 +290,7 @@ module _ {D : Type 0} (g : Ghosts D) (s : D) (was is : InodeRec) (p q : Pages) (
   same-tag e i at r = subst (λ (n : ℕ). IsRef (g.names s) always (wants_tagged (record { ino = 1; generation = n; index = i }, at)) at.name) (sym e) r
 
   module _ (index : ℕ) (to : Pointer) (leads : Leads index to) (installs : Installs index to was is p q f t) where
-    first-installed : (fresh : Option ℕ) → Takes fresh f t → (t.first ≡ f.first) × (length t.pool ≡ length f.pool)
+    first-installed : (fresh : Option ℕ) → TakesLeastAddress fresh f t → (t.first ≡ f.first) × (length t.pool ≡ length f.pool)
     first-installed None e = (ap (λ (z : Spaces). z.first) e, ap (λ (z : Spaces). length z.pool) e)
     first-installed (Some a) e = (e.1.first, e.1.pool.count)
 
@@ -300,7 +300,7 @@ module _ {D : Type 0} (g : Ghosts D) (s : D) (was is : InodeRec) (p q : Pages) (
         old : slot is r ≡ slot was r → IsTaken t (slot is r)
         old e = subst (IsTaken t) (sym e) (taken-still f t installs.fresh (slot was r) installs.taken (h.taken r (λ none. far (e ∙ none))))
 
-        at : (fresh : Option ℕ) → Takes fresh f t → slot is r ≡ unwrap_or fresh (slot was r) → IsTaken t (slot is r)
+        at : (fresh : Option ℕ) → TakesLeastAddress fresh f t → slot is r ≡ unwrap_or fresh (slot was r) → IsTaken t (slot is r)
         at None takes e = old e
         at (Some a) takes e = subst (IsTaken t) (sym e) (fresh-taken f t a h.first h.pool takes)
 

@@ -5,7 +5,7 @@ ghost use Rattle.nl_field.specs.declared.pointer.Pointer.{Pointer as PointerOf};
 ghost use Rattle.nl_files.specs.Installing.{HasFree};
 ghost use Rattle.nl_files.specs.Standing.{tag_of};
 ghost use Rattle.nl_iface.specs.Holders.{IsRef, always, wants_tagged};
-ghost use Rattle.nl_indirect.specs.Storing.{Begins};
+ghost use Rattle.nl_indirect.specs.Storing.{BeginsRange};
 ghost use Rattle.nl_test_files.specs.Files.{HasFile};
 
 use crate::device::Stamps;
@@ -96,7 +96,7 @@ fn ready<D: Stamps>(
 // Whether a new page of pointers has an address, where the range of an index has none.
 fn has_place(nodes: &mut Nodes, rec: &InodeRec, index: u32) -> bool
     requires within { index < 4104 }
-    ensures place { IsTrue result → (to : PointerOf) → Begins rec.now index (Some to) → HasFree nodes.old }
+    ensures place { IsTrue result → (to : PointerOf) → BeginsRange rec.now index (Some to) → HasFree nodes.old }
     ensures same { nodes.new ≡ nodes.old }
 {
     if index < 8 || page_address(rec, index) != 0 {

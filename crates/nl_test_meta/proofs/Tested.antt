@@ -9,7 +9,7 @@ use Rattle.nl_meta.specs.Nodes.{slots_of}
 use Rattle.nl_meta.specs.Pages.{Pages, has_room, page_of}
 use Rattle.nl_test_meta.specs.Tested.{IsTested}
 use Rattle.nl_indirect.specs.Ranges.{HasPointers, address_of, range_of}
-use Rattle.nl_indirect.specs.Storing.{Answers, Stores}
+use Rattle.nl_indirect.specs.Storing.{AnswersStored, Stores}
 use Rattle.nl_indirect.specs.declared.answer.Stored.{Stored}
 use Rattle.nl_indirect.specs.declared.answer.Stored.TheVariants.{Done, Emptied}
 use Rattle.nl_indirect.proofs.Fresh.{dirty_has_room}
@@ -23,7 +23,7 @@ module _ (range index : ℕ) (to : Pointer) (fresh : Option ℕ) (was is : Inode
   at-71 : address_of is index ≢ 0 → address_of is index ≡ 71
   at-71 far = by answer stores.answered fresh refl page-71 (cases_lt index 8)
     where
-      by : (s : Stored) → Answers index fresh was is s → (f : Option ℕ) → fresh ≡ f → IfSome f (λ a. a ≡ 71) → (index < 8) ⊎ (8 ≤ index) → address_of is index ≡ 71
+      by : (s : Stored) → AnswersStored index fresh was is s → (f : Option ℕ) → fresh ≡ f → IfSome f (λ a. a ≡ 71) → (index < 8) ⊎ (8 ≤ index) → address_of is index ≡ 71
       by (Emptied b) h f e p at = absurd (far h.2)
       by Done h (Some b) e p at = h ∙ ap (λ (o : Option ℕ). unwrap_or o (address_of was index)) e ∙ p
       by Done h None e p (inl low) = absurd (far (address-node is index low))

@@ -2,7 +2,7 @@ ghost use Rattle.std.specs.Prelude.{◌≡◌, ◌↔◌, ◌<◌, ◌≤◌, If
 ghost use Rattle.nl_field.specs.Spelling.{is_stamp};
 ghost use Rattle.nl_test_meta.specs.Tested.{IsTested};
 ghost use Rattle.nl_indirect.specs.Ranges.{range_of};
-ghost use Rattle.nl_indirect.specs.Storing.{Begins};
+ghost use Rattle.nl_indirect.specs.Storing.{BeginsRange};
 
 use nl_field::{InodeRec, Kind, Memory, Pointer, Shape};
 use nl_indirect::{Stored, lookup, page_address, store, truncate};
@@ -47,7 +47,7 @@ fn pointer(stamp: u64) -> Option<Pointer>
 
 fn fresh_for(rec: &InodeRec, index: u32, to: Option<Pointer>) -> Option<u32>
     requires { index < 4104 }
-    ensures some { IsSome result ↔ Begins rec.now index to }
+    ensures some { IsSome result ↔ BeginsRange rec.now index to }
     ensures page { IfSome result (λ a. a ≡ 71) }
 {
     if 8 <= index && to.is_some() && rec.addresses[((index - 8) / 256) as usize] == 0 {

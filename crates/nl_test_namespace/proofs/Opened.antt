@@ -14,7 +14,7 @@ use Rattle.nl_inode.specs.Nodes.{AreFree, Spaces}
 use Rattle.nl_meta.specs.Consistent.{AddressAt}
 use Rattle.nl_meta.specs.Pages.{Pages}
 use Rattle.nl_meta.proofs.Lists.{none_some}
-use Rattle.nl_namespace.specs.Changing.{FreeFits, Leaves, RunsBut}
+use Rattle.nl_namespace.specs.Changing.{FreeFits, ChangeLeaves, RunningIsRightBut}
 use Rattle.nl_namespace.specs.Naming.{MakesNode}
 use Rattle.nl_namespace.specs.declared.answer.Change.{Change}
 use Rattle.nl_namespace.specs.declared.answer.Change.TheVariants as change
@@ -22,10 +22,10 @@ use Rattle.nl_tree.specs.Tree.{Node}
 use Rattle.nl_recover.specs.Freeing.{SpacesOf}
 use Rattle.nl_recover.specs.Recovering.{IsWalked}
 use Rattle.nl_recover.specs.declared.opening.Walked.{Walked}
-use Rattle.nl_meta_running.specs.Running.{IsDirectoryAt, IsNodeOf, IsUsed, Runs, RunsOn, running_on}
+use Rattle.nl_meta_running.specs.Running.{IsDirectoryAt, IsNodeOf, IsUsedNode, RunningIsRight, PreservesRunning, running_on}
 use Rattle.nl_meta_running.proofs.Holds.{bounds-of}
 use Rattle.nl_meta_running.proofs.Kept.{runs-then, used-back, used-on}
-use Rattle.nl_test_namespace.specs.Volumes.{CanWrite, IsOpen, gone_of}
+use Rattle.nl_test_namespace.specs.Volumes.{AddressesCanBeWritten, IsOpen, gone_of}
 
 -- ---- an opening
 
@@ -46,7 +46,7 @@ fits-opened g s p free bounds spaces f =
       };
     }
 
-pub writes-on : {D : Type 0} {g : Ghosts D} {s : D} {shape : Shape} → CanWrite g s shape → (t : D) → g.formed t → OnlyReads g s t → CanWrite g t shape
+pub writes-on : {D : Type 0} {g : Ghosts D} {s : D} {shape : Shape} → AddressesCanBeWritten g s shape → (t : D) → g.formed t → OnlyReads g s t → AddressesCanBeWritten g t shape
 writes-on can t formed reads = record {
   formed = formed;
   numbers = reads.medium.virtual.same_shape ∙ can.numbers;
@@ -55,7 +55,7 @@ writes-on can t formed reads = record {
 }
 
 -- a volume that was opened
-pub opened-volume : {D : Type 0} {g : Ghosts D} {s t : D} {shape : Shape} {seen : List Seen} {w : Walked} → CanWrite g s shape → g.formed t → OnlyReads g s t → IsWalked g t seen w → CanWrite g t shape × IsOpen g t w.meta w.nodes
+pub opened-volume : {D : Type 0} {g : Ghosts D} {s t : D} {shape : Shape} {seen : List Seen} {w : Walked} → AddressesCanBeWritten g s shape → g.formed t → OnlyReads g s t → IsWalked g t seen w → AddressesCanBeWritten g t shape × IsOpen g t w.meta w.nodes
 opened-volume {g} {t} {w} can formed reads walked =
     let after = writes-on can t formed reads in
     (after, record { runs = walked.runs; fits = fits-opened g t w.meta w.nodes (subst ShapeBounds (sym after.numbers) after.bounds) walked.spaces walked.free })
@@ -63,7 +63,7 @@ opened-volume {g} {t} {w} can formed reads walked =
 -- ---- after calls
 
 -- what is free goes on to be what no node has
-module _ {D : Type 0} (g : Ghosts D) (s : D) (p : Pages) (t : D) (q : Pages) (volume : IsVolumeShape (g.shape s)) (on : RunsOn g s p t q) where
+module _ {D : Type 0} (g : Ghosts D) (s : D) (p : Pages) (t : D) (q : Pages) (volume : IsVolumeShape (g.shape s)) (on : PreservesRunning g s p t q) where
   node-after : (n : ℕ) (rec : InodeRec) → IsNodeOf g s p n rec → IsNodeOf g t q n rec
   node-after n rec is = used-on g s p t q (bounds-of (g.shape s) volume) on n rec is
 
@@ -98,27 +98,27 @@ module _ {D : Type 0} (g : Ghosts D) (s : D) (p : Pages) (t : D) (q : Pages) (vo
       after : (n slot a : ℕ) → AddressAt (g.shape s) (running_on g s p) n slot a → AddressAt (g.shape t) (running_on g t q) n slot a
       after n slot a x = record { rec = x.rec; is_node = node-after n x.rec x.is_node; in_slot = x.in_slot; not_zero = x.not_zero }
 
-runs-but : {D : Type 0} (g : Ghosts D) (t : D) (q : Pages) → RunsBut g t q None → Runs g t q
+runs-but : {D : Type 0} (g : Ghosts D) (t : D) (q : Pages) → RunningIsRightBut g t q None → RunningIsRight g t q
 runs-but g t q r = record { count = r.count; nodes = r.nodes; addresses = r.addresses; entries = r.entries; absent = r.absent; clean = r.clean }
 
 module _ {D : Type 0} (g : Ghosts D) (s : D) (p : Pages) (t : D) (q : Pages) (free after : Spaces) where
-  pub left-reads : (answer : Change) → Leaves g s p free t q after answer → OnlyReads g s t
+  pub left-reads : (answer : Change) → ChangeLeaves g s p free t q after answer → OnlyReads g s t
   left-reads (change.Changed lost) left = left.reads
   left-reads (change.No refusal) left = left.0.reads
   left-reads change.Fault left = left.0.reads
   left-reads (change.Lost w f) left = left.0.reads
 
   module _ (volume : IsVolumeShape (g.shape s)) (was : IsOpen g s p free) where
-    pub open-on : RunsOn g s p t q → IsOpen g t q free
+    pub open-on : PreservesRunning g s p t q → IsOpen g t q free
     open-on on = record { runs = runs-then g s p t q (bounds-of (g.shape s) volume) on was.runs; fits = fits-then g s p t q volume on free was.fits }
 
-    pub used-then : (n : ℕ) → RunsOn g s p t q → IsUsed g s p n → IsUsed g t q n
+    pub used-then : (n : ℕ) → PreservesRunning g s p t q → IsUsedNode g s p n → IsUsedNode g t q n
     used-then n on used = (used.0, used-on g s p t q (bounds-of (g.shape s) volume) on n used.0 used.1)
 
-    pub directory-then : (n : ℕ) (rec : InodeRec) → RunsOn g s p t q → IsNodeOf g s p n rec → rec.kind ≡ Dir → IsDirectoryAt g t q n
+    pub directory-then : (n : ℕ) (rec : InodeRec) → PreservesRunning g s p t q → IsNodeOf g s p n rec → rec.kind ≡ Dir → IsDirectoryAt g t q n
     directory-then n rec on is dir = (rec, used-on g s p t q (bounds-of (g.shape s) volume) on n rec is, dir)
 
-    pub open-left : (answer : Change) → gone_of answer ≡ None → Leaves g s p free t q after answer → IsOpen g t q after
+    pub open-left : (answer : Change) → gone_of answer ≡ None → ChangeLeaves g s p free t q after answer → IsOpen g t q after
     open-left (change.Changed None) none left = record { runs = runs-but g t q left.runs; fits = left.fits }
     open-left (change.Changed (Some n)) none left = absurd (none_some n (sym none))
     open-left (change.No refusal) none left = subst (IsOpen g t q) (sym left.1) (open-on left.0)

@@ -8,10 +8,10 @@ use Rattle.nl_meta.specs.Pages.{Pages}
 use Rattle.nl_namespace.specs.Changing.{FreeFits}
 use Rattle.nl_namespace.specs.declared.answer.Change.{Change}
 use Rattle.nl_namespace.specs.declared.answer.Change.TheVariants as change
-use Rattle.nl_meta_running.specs.Running.{Runs}
+use Rattle.nl_meta_running.specs.Running.{RunningIsRight}
 
 -- the device is of these numbers, and its addresses can be written
-pub record CanWrite {D : Type 0} (g : Ghosts D) (s : D) (shape : Shape) : Type 0 where
+pub record AddressesCanBeWritten {D : Type 0} (g : Ghosts D) (s : D) (shape : Shape) : Type 0 where
   pub formed : g.formed s
   pub numbers : g.shape s ≡ shape
   pub bounds : ShapeBounds shape
@@ -19,7 +19,7 @@ pub record CanWrite {D : Type 0} (g : Ghosts D) (s : D) (shape : Shape) : Type 0
 
 -- Names can be looked up and changed in the volume.
 pub record IsOpen {D : Type 0} (g : Ghosts D) (s : D) (p : Pages) (free : Spaces) : Type 0 where
-  pub runs : Runs g s p
+  pub runs : RunningIsRight g s p
   pub fits : FreeFits g s p free
 
 -- the node that lost its name

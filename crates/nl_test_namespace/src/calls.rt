@@ -1,9 +1,9 @@
 // Calls on names, and what they answered.
 ghost use Rattle.std.specs.Prelude.{◌≡◌, None};
 ghost use Rattle.nl_iface.specs.Calls.{OnlyReads};
-ghost use Rattle.nl_namespace.specs.Calls.{HasNames, IsOfNames};
+ghost use Rattle.nl_namespace.specs.Calls.{PathsHaveNames, IsOfNames};
 ghost use Rattle.nl_test_namespace.specs.Volumes.{IsOpen, gone_of};
-ghost use Rattle.nl_meta_running.specs.Running.{IsDirectoryAt, IsUsed};
+ghost use Rattle.nl_meta_running.specs.Running.{IsDirectoryAt, IsUsedNode};
 
 use nl_field::Kind;
 use nl_iface::VirtualPages;
@@ -44,7 +44,7 @@ pub fn changed<D: VirtualPages>(
 ) -> Outcome
     requires formed { D.formed device.old }
     requires volume { IsOpen D.Counts device.old meta.old nodes.old }
-    requires names { HasNames call.now }
+    requires names { PathsHaveNames call.now }
     requires of_names { IsOfNames call.now }
     ensures formed { D.formed device.new }
     ensures reads { OnlyReads D.Counts device.old device.new }
@@ -114,7 +114,7 @@ fn listed_at<D: VirtualPages>(
 ) -> Seen
     requires formed { D.formed device.old }
     requires volume { IsOpen D.Counts device.old meta.old nodes.now }
-    requires used { IsUsed D.Counts device.old meta.old ino }
+    requires used { IsUsedNode D.Counts device.old meta.old ino }
     ensures formed { D.formed device.new }
     ensures reads { OnlyReads D.Counts device.old device.new }
     ensures volume { IsOpen D.Counts device.new meta.new nodes.now }

@@ -1,7 +1,7 @@
 // Tables of calls on names.
 ghost use Rattle.std.specs.Prelude.{IfOk, IfSome};
-ghost use Rattle.nl_test_namespace.specs.Volumes.{CanWrite, IsOpen};
-ghost use Rattle.nl_namespace.specs.Calls.{HasNames, IsOfNames};
+ghost use Rattle.nl_test_namespace.specs.Volumes.{AddressesCanBeWritten, IsOpen};
+ghost use Rattle.nl_namespace.specs.Calls.{PathsHaveNames, IsOfNames};
 
 use crate::calls::Seen;
 use crate::paths::{Names, Series, path_of};
@@ -31,7 +31,7 @@ enum Step {
 
 /// The call of a step that changes names.
 fn call_of(alloc: Global, step: Step) -> Option<Call>
-    ensures names { IfSome result HasNames }
+    ensures names { IfSome result PathsHaveNames }
     ensures of_names { IfSome result IsOfNames }
 {
     match step {
@@ -55,9 +55,9 @@ fn answered<D: Stamps>(
     volume: Volume,
     step: Step,
 ) -> Result<After, Memory>
-    requires write { CanWrite D.Counts device.old shape.now }
+    requires write { AddressesCanBeWritten D.Counts device.old shape.now }
     requires volume { IsOpen D.Counts device.old volume.meta volume.nodes }
-    ensures write { IfOk result (λ a. CanWrite D.Counts device.new shape.now) }
+    ensures write { IfOk result (λ a. AddressesCanBeWritten D.Counts device.new shape.now) }
     ensures volume { IfOk result (λ a. IsOpen D.Counts device.new a.volume.meta a.volume.nodes) }
 {
     match step {
@@ -104,7 +104,7 @@ fn first_other<D: Stamps>(
     rows: &[(Step, Seen)],
     row: usize,
 ) -> Result<Option<usize>, Memory>
-    requires write { CanWrite D.Counts device.old shape.now }
+    requires write { AddressesCanBeWritten D.Counts device.old shape.now }
     requires volume { IsOpen D.Counts device.old volume.meta volume.nodes }
 {
     if row >= rows.len() {
@@ -128,7 +128,7 @@ fn other<D: Stamps>(
     scan: &ScanTables,
     rows: &[(Step, Seen)],
 ) -> Result<Option<usize>, Memory>
-    requires write { CanWrite D.Counts device.old shape.now }
+    requires write { AddressesCanBeWritten D.Counts device.old shape.now }
 {
     let mut buf = PageBuf::new(alloc)?;
     let formatted = format(device, shape, &mut buf);

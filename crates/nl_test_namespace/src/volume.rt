@@ -1,7 +1,7 @@
 // A volume that was opened over a device, and is opened again.
 ghost use Rattle.std.specs.Prelude.{◌≡◌, ◌≤◌, IfOk, length};
-ghost use Rattle.nl_test_namespace.specs.Volumes.{CanWrite, IsOpen};
-ghost use Rattle.nl_namespace.specs.Calls.{HasNames, IsOfNames};
+ghost use Rattle.nl_test_namespace.specs.Volumes.{AddressesCanBeWritten, IsOpen};
+ghost use Rattle.nl_namespace.specs.Calls.{PathsHaveNames, IsOfNames};
 
 use crate::calls::{Outcome, Seen, changed, listed};
 use crate::making::makes;
@@ -37,8 +37,8 @@ pub fn opened<D: Stamps>(
     shape: &Shape,
     scan: &ScanTables,
 ) -> Result<Volume, Memory>
-    requires write { CanWrite D.Counts device.old shape.now }
-    ensures write { IfOk result (λ v. CanWrite D.Counts device.new shape.now) }
+    requires write { AddressesCanBeWritten D.Counts device.old shape.now }
+    ensures write { IfOk result (λ v. AddressesCanBeWritten D.Counts device.new shape.now) }
     ensures volume { IfOk result (λ v. IsOpen D.Counts device.new v.meta v.nodes) }
 {
     match recover(alloc, device, shape, scan) {
@@ -62,8 +62,8 @@ pub fn reopened<D: Stamps>(
     meta: &Meta,
     gone: Option<u32>,
 ) -> Result<Volume, Memory>
-    requires write { CanWrite D.Counts device.old shape.now }
-    ensures write { IfOk result (λ v. CanWrite D.Counts device.new shape.now) }
+    requires write { AddressesCanBeWritten D.Counts device.old shape.now }
+    ensures write { IfOk result (λ v. AddressesCanBeWritten D.Counts device.new shape.now) }
     ensures volume { IfOk result (λ v. IsOpen D.Counts device.new v.meta v.nodes) }
 {
     let mut buf = PageBuf::new(alloc)?;
@@ -84,9 +84,9 @@ fn settled<D: Stamps>(
     scan: &ScanTables,
     volume: Volume,
 ) -> Result<Volume, Memory>
-    requires write { CanWrite D.Counts device.old shape.now }
+    requires write { AddressesCanBeWritten D.Counts device.old shape.now }
     requires volume { IsOpen D.Counts device.old volume.meta volume.nodes }
-    ensures write { IfOk result (λ v. CanWrite D.Counts device.new shape.now) }
+    ensures write { IfOk result (λ v. AddressesCanBeWritten D.Counts device.new shape.now) }
     ensures volume { IfOk result (λ v. IsOpen D.Counts device.new v.meta v.nodes) }
 {
     if volume.meta.dirty() > 40 {
@@ -107,11 +107,11 @@ pub fn change_names<D: Stamps>(
     volume: Volume,
     call: &Call,
 ) -> Result<After, Memory>
-    requires write { CanWrite D.Counts device.old shape.now }
+    requires write { AddressesCanBeWritten D.Counts device.old shape.now }
     requires volume { IsOpen D.Counts device.old volume.meta volume.nodes }
-    requires names { HasNames call.now }
+    requires names { PathsHaveNames call.now }
     requires of_names { IsOfNames call.now }
-    ensures write { IfOk result (λ a. CanWrite D.Counts device.new shape.now) }
+    ensures write { IfOk result (λ a. AddressesCanBeWritten D.Counts device.new shape.now) }
     ensures volume { IfOk result (λ a. IsOpen D.Counts device.new a.volume.meta a.volume.nodes) }
 {
     let Volume {
@@ -144,9 +144,9 @@ pub fn make_all<D: Stamps>(
     number: u32,
     parts: u32,
 ) -> Result<After, Memory>
-    requires write { CanWrite D.Counts device.old shape.now }
+    requires write { AddressesCanBeWritten D.Counts device.old shape.now }
     requires volume { IsOpen D.Counts device.old volume.meta volume.nodes }
-    ensures write { IfOk result (λ a. CanWrite D.Counts device.new shape.now) }
+    ensures write { IfOk result (λ a. AddressesCanBeWritten D.Counts device.new shape.now) }
     ensures volume { IfOk result (λ a. IsOpen D.Counts device.new a.volume.meta a.volume.nodes) }
 {
     let Volume {
@@ -183,9 +183,9 @@ pub fn list_names<D: Stamps>(
     volume: Volume,
     path: &Path,
 ) -> Result<After, Memory>
-    requires write { CanWrite D.Counts device.old shape.now }
+    requires write { AddressesCanBeWritten D.Counts device.old shape.now }
     requires volume { IsOpen D.Counts device.old volume.meta volume.nodes }
-    ensures write { IfOk result (λ a. CanWrite D.Counts device.new shape.now) }
+    ensures write { IfOk result (λ a. AddressesCanBeWritten D.Counts device.new shape.now) }
     ensures volume { IfOk result (λ a. IsOpen D.Counts device.new a.volume.meta a.volume.nodes) }
 {
     let _shape = shape;

@@ -2,7 +2,7 @@
 ghost use Rattle.std.specs.Prelude.{IfOk, IsTrue};
 ghost use Rattle.nl_field.specs.Numbers.{ShapeBounds};
 ghost use Rattle.nl_iface.specs.Device.{IsVolumeShape};
-ghost use Rattle.nl_test_namespace.specs.Volumes.{CanWrite};
+ghost use Rattle.nl_test_namespace.specs.Volumes.{AddressesCanBeWritten};
 
 use nl_device::{Device, Started};
 use nl_field::{Memory, PageBuf, Shape, VirtualWrite};
@@ -24,7 +24,7 @@ pub struct Fresh {
 pub fn begun(alloc: Global, shape: Shape) -> Result<Fresh, Memory>
     requires volume { IsVolumeShape shape }
     requires bounds { ShapeBounds shape }
-    ensures { IfOk result (λ b. CanWrite ⟦<Device<MemNand> as Counts>⟧ b.device shape) }
+    ensures { IfOk result (λ b. AddressesCanBeWritten ⟦<Device<MemNand> as Counts>⟧ b.device shape) }
 {
     let media = blank(alloc, shape.blocks, shape.pages)?;
     match Device::start(alloc, media) {
@@ -41,8 +41,8 @@ const ROOT: [u8; 24] = *b"\x02\0\0\0\0\0\0\0\0\0\0\0\0\0\0\0\0\0\0\0\0\0\0\0";
 
 /// A volume with an empty root is written. Whether it was.
 pub fn format<D: Stamps>(device: &mut D, shape: &Shape, buf: &mut PageBuf) -> bool
-    requires write { CanWrite D.Counts device.old shape.now }
-    ensures write { IsTrue result → CanWrite D.Counts device.new shape.now }
+    requires write { AddressesCanBeWritten D.Counts device.old shape.now }
+    ensures write { IsTrue result → AddressesCanBeWritten D.Counts device.new shape.now }
 {
     buf.clear();
     buf.set_main(0, &SUPER);
@@ -58,8 +58,8 @@ pub fn format<D: Stamps>(device: &mut D, shape: &Shape, buf: &mut PageBuf) -> bo
 
 /// Writes the page of an address. Whether it was written.
 fn put<D: Stamps>(device: &mut D, shape: &Shape, vaddr: u32, buf: &PageBuf) -> bool
-    requires write { CanWrite D.Counts device.old shape.now }
-    ensures write { IsTrue result → CanWrite D.Counts device.new shape.now }
+    requires write { AddressesCanBeWritten D.Counts device.old shape.now }
+    ensures write { IsTrue result → AddressesCanBeWritten D.Counts device.new shape.now }
 {
     if vaddr >= shape.vaddrs {
         return false;
@@ -84,8 +84,8 @@ pub fn save<D: Stamps>(
     buf: &mut PageBuf,
     vaddr: u32,
 ) -> bool
-    requires write { CanWrite D.Counts device.old shape.now }
-    ensures write { IsTrue result → CanWrite D.Counts device.new shape.now }
+    requires write { AddressesCanBeWritten D.Counts device.old shape.now }
+    ensures write { IsTrue result → AddressesCanBeWritten D.Counts device.new shape.now }
 {
     if vaddr >= 4_000 {
         return true;
@@ -105,8 +105,8 @@ fn save_one<D: Stamps>(
     buf: &mut PageBuf,
     vaddr: u32,
 ) -> bool
-    requires write { CanWrite D.Counts device.old shape.now }
-    ensures write { IsTrue result → CanWrite D.Counts device.new shape.now }
+    requires write { AddressesCanBeWritten D.Counts device.old shape.now }
+    ensures write { IsTrue result → AddressesCanBeWritten D.Counts device.new shape.now }
 {
     if !meta.resident(vaddr) {
         return true;

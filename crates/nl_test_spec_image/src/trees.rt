@@ -3,14 +3,14 @@ ghost use Rattle.nl_field.specs.Page.{uncorrectable};
 ghost use Rattle.nl_field.specs.Examples.{fresh_image, short_page};
 ghost use Rattle.nl_tree.specs.Tree.{Tree, empty_tree};
 ghost use Rattle.nl_test_spec_image.specs.Examples.{image_of_a, hello_page, long_page};
-ghost use Rattle.nl_spec_image.specs.Crash.{OpensAsPrefix, StopsSafely};
+ghost use Rattle.nl_spec_image.specs.Crash.{OpensAsPrefix, CrashesSafely};
 ghost use Rattle.nl_test_spec_image.specs.Trees.{tree_with_a, run_of_a, run_from_two, after_one, after_two, opens_as};
 ghost use Rattle.nl_spec_image.specs.Formatted.{IsFormatted};
-ghost use Rattle.nl_spec_image.specs.Stands.{Stands, SoundAs, Sound};
+ghost use Rattle.nl_spec_image.specs.Stands.{ImageRepresents, ConsistentAs, IsConsistentImage};
 
 /// What `format 32 32` leaves opens as the tree with only the root, after no call.
 pub fn fresh_stands()
-    ensures { SoundAs fresh_image 0 empty_tree }
+    ensures { ConsistentAs fresh_image 0 empty_tree }
 {}
 
 /// The fresh image is as a format leaves it for these numbers, and for no others. An image with a file is not.
@@ -22,25 +22,25 @@ pub fn fresh_is_formatted()
 
 /// The root has one entry, of a file with one page.
 pub fn a_stands()
-    ensures { SoundAs (image_of_a hello_page) 2 tree_with_a }
+    ensures { ConsistentAs (image_of_a hello_page) 2 tree_with_a }
 {}
 
 /// A page of five main bytes is no page, whatever else stands there.
 pub fn no_short_pages()
-    ensures { (count : ℕ) (tree : Tree) → Stands short_page count tree → ⊥ }
+    ensures { (count : ℕ) (tree : Tree) → ImageRepresents short_page count tree → ⊥ }
 {}
 
 /// Without the page of a pointer, or with bytes behind the file's size, an image is not sound.
 pub fn damaged()
-    ensures no_page { Sound (image_of_a uncorrectable) → ⊥ }
-    ensures behind { Sound (image_of_a long_page) → ⊥ }
+    ensures no_page { IsConsistentImage (image_of_a uncorrectable) → ⊥ }
+    ensures behind { IsConsistentImage (image_of_a long_page) → ⊥ }
 {}
 
 /// A fresh image opens as no call of a list, unless a sync made one durable before.
 pub fn prefixes()
-    ensures none { OpensAsPrefix SoundAs (run_of_a []) 5 fresh_image }
-    ensures later { OpensAsPrefix SoundAs (run_of_a (record { upto = 1; moment = 6 } ∷ [])) 5 fresh_image }
-    ensures synced { OpensAsPrefix SoundAs (run_of_a (record { upto = 1; moment = 5 } ∷ [])) 5 fresh_image → ⊥ }
+    ensures none { OpensAsPrefix ConsistentAs (run_of_a []) 5 fresh_image }
+    ensures later { OpensAsPrefix ConsistentAs (run_of_a (record { upto = 1; moment = 6 } ∷ [])) 5 fresh_image }
+    ensures synced { OpensAsPrefix ConsistentAs (run_of_a (record { upto = 1; moment = 5 } ∷ [])) 5 fresh_image → ⊥ }
 {}
 
 /// Two calls after the second of a volume: an image opens so as the tree after 2, 3 or 4 calls, and not as that after more or fewer.
@@ -55,7 +55,7 @@ pub fn prefixes_of_two()
 
 /// What is left behind the last moment, or before the first, is not safely left.
 pub fn moments()
-    ensures within { StopsSafely opens_as (λ m c. ⊥) (λ m c. (m ≡ 7) × (c ≡ (2, tree_with_a))) 7 7 (run_from_two []) }
-    ensures too_late { StopsSafely opens_as (λ m c. ⊥) (λ m c. (m ≡ 8) × (c ≡ (2, tree_with_a))) 7 7 (run_from_two []) → ⊥ }
-    ensures too_early { StopsSafely opens_as (λ m c. ⊥) (λ m c. (m ≡ 6) × (c ≡ (2, tree_with_a))) 7 7 (run_from_two []) → ⊥ }
+    ensures within { CrashesSafely opens_as (λ m c. ⊥) (λ m c. (m ≡ 7) × (c ≡ (2, tree_with_a))) 7 7 (run_from_two []) }
+    ensures too_late { CrashesSafely opens_as (λ m c. ⊥) (λ m c. (m ≡ 8) × (c ≡ (2, tree_with_a))) 7 7 (run_from_two []) → ⊥ }
+    ensures too_early { CrashesSafely opens_as (λ m c. ⊥) (λ m c. (m ≡ 6) × (c ≡ (2, tree_with_a))) 7 7 (run_from_two []) → ⊥ }
 {}

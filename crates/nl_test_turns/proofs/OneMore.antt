@@ -3,8 +3,8 @@ use Rattle.std.proofs.Common.{◌≡◌, ℕ, zero, suc, ◌+◌, ◌-◌, ◌<�
 use Rattle.std.specs.Prelude.{slice_get, IfSome, Contains}
 use mathlib.Core.List.{IsPrefix}
 use Rattle.nl_tree.specs.declared.call.Line.{Line}
-use Rattle.nl_turns.specs.Seat.{Passed, SeatState, by_seat, longer, NoneBeyond}
-use Rattle.nl_test_turns.specs.Work.{lines_of, HasWorked, MayRun, HasRun}
+use Rattle.nl_turns.specs.Seat.{Passed, SeatState, by_seat, longer, NoNumberBeyond}
+use Rattle.nl_test_turns.specs.Work.{lines_of, HasTakenTurns, CanRunWorkers, SeatsHaveRun}
 use Rattle.nl_turns.proofs.Histories.{prefix_trans}
 
 contains_cons : (n m : ℕ) (ms : List ℕ) → Contains ms n → Contains (m ∷ ms) n
@@ -17,19 +17,19 @@ no_lines : (n : ℕ) (xs : List Passed) → by_seat n xs ≡ [] → lines_of n x
 no_lines n xs e = ap (λ (ys : List Passed). map (λ e. e.line) (map (λ p. p.entry) ys)) e
 
 module _ (seat own s1 own' s2 s3 : SeatState) (lines : List Line) (line : Line) (more times : ℕ)
-    (may : MayRun seat (more + 1))
+    (may : CanRunWorkers seat (more + 1))
     (at : slice_get lines more ≡ Some line)
     (new : own ≡ record seat { number = seat.next; places = 0; next = 0; joined = [] })
     (left : s1 ≡ record seat { places = seat.places - 1; next = seat.next + 1 })
-    (unused : NoneBeyond own.number own.seen)
-    (worked : HasWorked own line.line times own')
-    (ran : HasRun s1 lines more times s2)
+    (unused : NoNumberBeyond own.number own.seen)
+    (worked : HasTakenTurns own line.line times own')
+    (ran : SeatsHaveRun s1 lines more times s2)
     (joined : s3 ≡ record s2 { seen = longer s2.seen own'.seen; places = s2.places + 1; joined = own'.number ∷ s2.joined })
     (grows : IsPrefix s2.seen s3.seen × IsPrefix own'.seen s3.seen)
     (kept : by_seat 0 s3.seen ≡ by_seat 0 s2.seen)
     (theirs : by_seat own'.number s3.seen ≡ by_seat own'.number own'.seen)
     (before : (n : ℕ) → Contains s2.joined n → by_seat n s3.seen ≡ by_seat n s2.seen)
-    (numbers : NoneBeyond s3.next s3.seen) where
+    (numbers : NoNumberBeyond s3.next s3.seen) where
   joined_is : s3.joined ≡ own'.number ∷ s2.joined
   joined_is = ap (λ (z : SeatState). z.joined) joined
 
@@ -98,7 +98,7 @@ module _ (seat own s1 own' s2 s3 : SeatState) (lines : List Line) (line : Line) 
       carry None xs ys e h = tt
       carry (Some l) xs ys e h = e ∙ h
 
-  pub one_more_ran : HasRun seat lines (more + 1) times s3
+  pub one_more_ran : SeatsHaveRun seat lines (more + 1) times s3
   one_more_ran = record {
     same = same_is;
     grows = (

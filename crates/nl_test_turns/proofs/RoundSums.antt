@@ -6,10 +6,10 @@ use Rattle.nl_field.specs.CrashStates.{top, saturated}
 use Rattle.nl_tree.specs.Calls.{IsLine}
 use Rattle.nl_tree.specs.declared.call.Line.{Line}
 use Rattle.nl_turns.specs.History.{Opening, line_at, effects}
-use Rattle.nl_turns.specs.Seat.{SeatState, by_seat, entries, NoneBeyond}
+use Rattle.nl_turns.specs.Seat.{SeatState, by_seat, entries, NoNumberBeyond}
 use Rattle.nl_turns.proofs.Lines.{get_at, line_found}
 use Rattle.nl_test_turns.specs.Script.{IsScript}
-use Rattle.nl_test_turns.specs.Work.{entries_of, lines_of, HasLine, EachHasLine, HasRun}
+use Rattle.nl_test_turns.specs.Work.{entries_of, lines_of, HasLine, EachHasLine, SeatsHaveRun}
 use Rattle.nl_test_turns.proofs.Totals.{workers_effects, effects_of_line}
 
 -- a script's lines are lines of an opening that has them
@@ -32,10 +32,10 @@ get_there [] i h = absurd (omega arith)
 get_there (x ∷ xs) zero h = (x, refl)
 get_there (x ∷ xs) (suc i) h = get_there xs i (omega arith)
 
-pub run_counts : (seat after : SeatState) (lines : List Line) (workers times : ℕ) → IsScript lines workers → HasRun seat lines workers times after → seat.next ≡ 1 → seat.seen ≡ []
+pub run_counts : (seat after : SeatState) (lines : List Line) (workers times : ℕ) → IsScript lines workers → SeatsHaveRun seat lines workers times after → seat.next ≡ 1 → seat.seen ≡ []
     → effects (entries after.seen) ≡ workers * times
 run_counts seat after lines workers times script ran next seen =
-    workers_effects workers times after.seen (subst (λ n. NoneBeyond n after.seen) next_is (ran.numbers (λ n le. ap (by_seat n) seen))) (ran.own ∙ ap (by_seat 0) seen) each
+    workers_effects workers times after.seen (subst (λ n. NoNumberBeyond n after.seen) next_is (ran.numbers (λ n le. ap (by_seat n) seen))) (ran.own ∙ ap (by_seat 0) seen) each
   where
     next_is : after.next ≡ workers + 1
     next_is = let a = ap (λ (z : SeatState). z.next) ran.same in omega arith

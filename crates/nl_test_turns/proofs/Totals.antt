@@ -3,7 +3,7 @@ use Rattle.std.proofs.Common.{◌≡◌, ◌==◌, ℕ, zero, suc, ◌+◌, ◌*
 use Rattle.std.proofs.lemmas.Bool.Decides.{nat_tests}
 use Rattle.std.proofs.lemmas.List.Sums.{sum_by-cons}
 use Rattle.nl_turns.specs.History.{is_effect, effects}
-use Rattle.nl_turns.specs.Seat.{Passed, by_seat, entries, NoneBeyond}
+use Rattle.nl_turns.specs.Seat.{Passed, by_seat, entries, NoNumberBeyond}
 use Rattle.nl_turns.specs.declared.entry.Entry.{Entry}
 use Rattle.nl_test_turns.specs.Work.{entries_of}
 
@@ -39,14 +39,14 @@ below_cons (suc n) p xs =
     omega arith
 
 -- the number that the first entry has, where none from n on stands in the history
-below_next : (n : ℕ) (p : Passed) (xs : List Passed) → NoneBeyond n (p ∷ xs) → p.seat < n
+below_next : (n : ℕ) (p : Passed) (xs : List Passed) → NoNumberBeyond n (p ∷ xs) → p.seat < n
 below_next n p xs none = lt_of_not-le (λ le. not_empty (p.seat == p.seat) (eq-eqb p.seat p.seat refl) (none p.seat le))
   where
     not_empty : (b : Bool) → b ≡ true → cond b (p ∷ by_seat p.seat xs) (by_seat p.seat xs) ≡ [] → ⊥
     not_empty true so e = absurd (cc e)
     not_empty false so e = absurd (cc so)
 
-none_later : (n : ℕ) (p : Passed) (xs : List Passed) → NoneBeyond n (p ∷ xs) → NoneBeyond n xs
+none_later : (n : ℕ) (p : Passed) (xs : List Passed) → NoNumberBeyond n (p ∷ xs) → NoNumberBeyond n xs
 none_later n p xs none m le = go (p.seat == m) (none m le)
   where
     go : (b : Bool) → cond b (p ∷ by_seat m xs) (by_seat m xs) ≡ [] → by_seat m xs ≡ []
@@ -54,7 +54,7 @@ none_later n p xs none m le = go (p.seat == m) (none m le)
     go false e = e
 
 -- where no number from n on stands in the history, all effects are those of the seats below n
-all_effects : (n : ℕ) (xs : List Passed) → NoneBeyond n xs → effects (entries xs) ≡ effects_below n xs
+all_effects : (n : ℕ) (xs : List Passed) → NoNumberBeyond n xs → effects (entries xs) ≡ effects_below n xs
 all_effects n [] none = none_in n
   where
     none_in : (m : ℕ) → 0 ≡ effects_below m []
@@ -68,7 +68,7 @@ all_effects n (p ∷ xs) none =
     omega arith
 
 -- so many workers of so many effects each, from seat 1 on
-pub workers_effects : (workers times : ℕ) (xs : List Passed) → NoneBeyond (workers + 1) xs → by_seat 0 xs ≡ [] → ((i : ℕ) → i < workers → effects (entries_of (1 + i) xs) ≡ times)
+pub workers_effects : (workers times : ℕ) (xs : List Passed) → NoNumberBeyond (workers + 1) xs → by_seat 0 xs ≡ [] → ((i : ℕ) → i < workers → effects (entries_of (1 + i) xs) ≡ times)
     → effects (entries xs) ≡ workers * times
 workers_effects workers times xs none zero_is each =
     let all = all_effects (workers + 1) xs none in

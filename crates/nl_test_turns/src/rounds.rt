@@ -1,7 +1,7 @@
 ghost use Rattle.std.specs.Prelude.{◌≡◌, ℕ, ◌+◌, ◌≤◌, length, false, vec_len, IfSome, slice_get};
 ghost use Rattle.std.specs.Thread.{IsSync};
 ghost use Rattle.nl_turns.specs.Seat.{SeatState};
-ghost use Rattle.nl_test_turns.specs.Work.{HasLine, HasWorked, MayRun, HasRun, EachHasLine};
+ghost use Rattle.nl_test_turns.specs.Work.{HasLine, HasTakenTurns, CanRunWorkers, SeatsHaveRun, EachHasLine};
 
 use crate::work::take_turns;
 use nl_tree::{Lines, ReplyBuf};
@@ -20,9 +20,9 @@ pub fn round<V: Served + Send, R: Threads + Wait + Sync>(
     times: u32,
 ) -> TurnSeat
     requires lock { seat.lock ≡ turns.now.name }
-    requires may { MayRun seat (vec_len outs) }
+    requires may { CanRunWorkers seat (vec_len outs) }
     requires lines { (vec_len outs ≤ length lines.now) × EachHasLine seat.opening lines.now }
-    ensures { HasRun seat lines.now (vec_len outs) times result }
+    ensures { SeatsHaveRun seat lines.now (vec_len outs) times result }
 {
     let Some(out) = outs.pop() else {
         return seat;
@@ -35,11 +35,11 @@ pub fn round<V: Served + Send, R: Threads + Wait + Sync>(
         rt,
         move || -> TurnSeat
             requires { (own.lock ≡ turns.now.name) × (own.has_turn ≡ false) × HasLine own.opening line.now }
-            ensures { HasWorked own line.entry.now.line times result }
+            ensures { HasTakenTurns own line.entry.now.line times result }
         { take_turns(rt, turns, own, line, out, times) },
         move || -> TurnSeat
-            requires { IsSync R.row × (seat.lock ≡ turns.now.name) × MayRun seat (vec_len outs) × (vec_len outs ≤ length lines.now) × EachHasLine seat.opening lines.now }
-            ensures { HasRun seat lines.entry.now (vec_len outs) times result }
+            requires { IsSync R.row × (seat.lock ≡ turns.now.name) × CanRunWorkers seat (vec_len outs) × (vec_len outs ≤ length lines.now) × EachHasLine seat.opening lines.now }
+            ensures { SeatsHaveRun seat lines.entry.now (vec_len outs) times result }
         { round(rt, turns, seat, lines, outs, times) },
     );
     turns.join(&mut seat, own);

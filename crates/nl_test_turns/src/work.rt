@@ -1,5 +1,5 @@
 ghost use Rattle.std.specs.Prelude.{◌≡◌, false};
-ghost use Rattle.nl_test_turns.specs.Work.{HasLine, HasWorked};
+ghost use Rattle.nl_test_turns.specs.Work.{HasLine, HasTakenTurns};
 
 use crate::line::effect_turn;
 use nl_tree::{Line, ReplyBuf};
@@ -18,7 +18,7 @@ pub fn take_turns<V: Served, R: Wait>(
     requires lock { seat.lock ≡ turns.now.name }
     requires idle { seat.has_turn ≡ false }
     requires line { HasLine seat.opening line.now }
-    ensures { HasWorked seat line.now.line times result }
+    ensures { HasTakenTurns seat line.now.line times result }
 {
     for _ in 0..times {
         effect_turn(rt, turns, &mut seat, line, &mut out);

@@ -10,12 +10,12 @@ use Rattle.nl_field.specs.declared.pointer.Tag.{Tag}
 use Rattle.nl_field.specs.declared.shape.Shape.{Shape}
 use Rattle.nl_iface.specs.Device.{IsVolumeShape}
 use Rattle.nl_iface.specs.Left.{HoldsLive, LeavesTried}
-use Rattle.nl_iface.specs.Names.{IsNew, LivePage, with_page}
+use Rattle.nl_iface.specs.Names.{IsNewName, LivePage, with_page}
 use Rattle.nl_iface.specs.Space.{Wrote}
 use Rattle.nl_iface.specs.Stored.{NamedPage, SameVirtual, Stored}
 use Rattle.nl_testkit_still.specs.Laws.{holds_live, leaves_in, leaves_pages}
 use Rattle.nl_testkit_still.specs.Stands.{IsLabel, IsStill}
-use Rattle.nl_testkit_still.specs.Still.{Puts, bytes_at, holding, label, label_at, live_at, live_in, map_at, named_at, names_of, no_page, page_of, space_of, stamp_at, stored_in}
+use Rattle.nl_testkit_still.specs.Still.{PutsStill, bytes_at, holding, label, label_at, live_at, live_in, map_at, named_at, names_of, no_page, page_of, space_of, stamp_at, stored_in}
 use Rattle.nl_testkit_still.specs.declared.still.Label.{Label}
 use Rattle.nl_testkit_still.specs.declared.still.Still.{Still}
 use Rattle.nl_testkit_still.proofs.Counted.{one_more}
@@ -55,7 +55,7 @@ next_is_dead s f = ap (λ (o : Option Label). option_map page_of o) (by (label_a
     by None is = refl
     by (Some l) is = let below = (f.written s.given l (f.holds s.given l is)).below in absurd (omega (arith, below))
 
-module _ (tag : Tag) (from : PageBytes) (s t : Still) (f : IsStill s) (room : 0 < s.room) (p : Puts tag from s t) where
+module _ (tag : Tag) (from : PageBytes) (s t : Still) (f : IsStill s) (room : 0 < s.room) (p : PutsStill tag from s t) where
   abbrev pub written : Label
   written = label tag s.next
 
@@ -181,7 +181,7 @@ module _ (tag : Tag) (from : PageBytes) (s t : Still) (f : IsStill s) (room : 0 
 
   -- of a memory that holds the same, with as many live pages or more
   module _ (old : Still) (g : IsStill old) (same_shape : old.shape ≡ s.shape) (same_given : old.given ≡ s.given) (same_labels : old.labels.items ≡ s.labels.items) (same_pages : old.pages.items ≡ s.pages.items) where
-    pub is_new : IsNew old.shape (names_of old) s.given
+    pub is_new : IsNewName old.shape (names_of old) s.given
     is_new = record {
       low = subst (λ (h : Shape). first_physical h ≤ s.given) (sym same_shape) f.from;
       high = subst (λ (h : Shape). s.given < h.blocks * h.pages) (sym same_shape) (next_within s f room);
@@ -208,7 +208,7 @@ module _ (tag : Tag) (from : PageBytes) (s t : Still) (f : IsStill s) (room : 0 
       holds = holds_still;
       pages = leaves_in old g (stored_in t) holds_still;
       others = λ q. ⊎_elim
-          (λ here. inr (inr (subst (λ n. IsNew old.shape (names_of old) n) (sym here) is_new, ap (λ n. named_at t.labels.items t.pages.items n) here ∙ put_named)))
+          (λ here. inr (inr (subst (λ n. IsNewName old.shape (names_of old) n) (sym here) is_new, ap (λ n. named_at t.labels.items t.pages.items n) here ∙ put_named)))
           (λ off. inl (other_named q off ∙ as_before q))
           (cases_eq q s.given);
     }

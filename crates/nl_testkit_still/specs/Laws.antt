@@ -12,7 +12,7 @@ use Rattle.nl_iface.specs.Device.{IsDeviceState, entry_with, state_of}
 use Rattle.nl_iface.specs.Left.{HoldsLive, HoldsStamp, LeavesPages}
 use Rattle.nl_iface.specs.Names.{IsNames, LivePage}
 use Rattle.nl_iface.specs.Space.{IsSpace}
-use Rattle.nl_iface.specs.Stored.{NamedPage, NoneBeyond, Shows, Stored, Value}
+use Rattle.nl_iface.specs.Stored.{NamedPage, NothingStoredBeyond, ShowsMap, Stored, Value}
 use Rattle.nl_testkit_still.specs.Stands.{IsLabel, IsStill}
 use Rattle.nl_testkit_still.specs.Still.{bytes_at, holding, label_at, last_block, live_at, map_at, names_of, named_at, page_of, space_of, stamp_at, stored_in, value_with}
 use Rattle.nl_testkit_still.specs.declared.still.Label.{Label}
@@ -36,10 +36,10 @@ stamp_of_value stamps values v = by (stamp_at stamps v)
 pub none_from : (s : Still) → IsStill s → (v : ℕ) → s.shape.vaddrs ≤ v → stamp_at s.stamps.items v ≡ None
 none_from s f v past = get_or_past s.stamps.items v None (let n = f.stamps in omega (arith, n, past))
 
-pub none_lost : (s : Still) → IsStill s → NoneBeyond s.shape.vaddrs (stored_in s)
+pub none_lost : (s : Still) → IsStill s → NothingStoredBeyond s.shape.vaddrs (stored_in s)
 none_lost s f v past = ap (λ (o : Option ℕ). option_map (value_with (bytes_at s.values.items v)) o) (none_from s f v past)
 
-pub shows_map : (s : Still) → Shows s.shape.vaddrs (λ v. map_at s.stamps.items s.values.items v) (λ v x. ⊥) (stored_in s)
+pub shows_map : (s : Still) → ShowsMap s.shape.vaddrs (λ v. map_at s.stamps.items s.values.items v) (λ v x. ⊥) (stored_in s)
 shows_map s v below = inl refl
 
 pub at_most_now : (s : Still) (m : ℕ) → m ≡ s.clock → m ≤ s.clock

@@ -35,7 +35,7 @@ pub record IsStill (s : Still) : Type 0 where
   pub addresses : (v t : ℕ) → stamp_at s.stamps.items v ≡ Some t → t < s.next
 
 -- nothing is written
-pub record IsFresh (numbers : Shape) (s : Still) : Type 0 where
+pub record IsFreshStill (numbers : Shape) (s : Still) : Type 0 where
   pub shape : s.shape ≡ numbers
   pub labels : s.labels.items ≡ replicate (numbers.blocks * numbers.pages) None
   pub live : s.live.items ≡ replicate (numbers.blocks * numbers.pages) None

@@ -93,7 +93,7 @@ abbrev pub label : Tag → ℕ → Label
 label tag stamp = record { tag = tag; stamp = stamp }
 
 -- The next page is written, and live.
-pub record Puts (tag : Tag) (from : PageBytes) (old new : Still) : Type 0 where
+pub record PutsStill (tag : Tag) (from : PageBytes) (old new : Still) : Type 0 where
   pub shape : new.shape ≡ old.shape
   pub labels : new.labels.items ≡ set old.labels.items old.given (Some (label tag old.next))
   pub live : new.live.items ≡ set old.live.items old.given (Some (label tag old.next))

@@ -3,8 +3,8 @@ ghost use Rattle.std.specs.Prelude.{◌≡◌, ◌+◌, ◌<◌, ◌≤◌, ◌*
 ghost use Rattle.nl_field.specs.CrashStates.{Earlier, saturated};
 ghost use Rattle.nl_field.specs.Numbers.{ShapeBounds};
 ghost use Rattle.nl_iface.specs.Device.{IsVolumeShape};
-ghost use Rattle.nl_testkit_still.specs.Stands.{IsFresh, IsStill};
-ghost use Rattle.nl_testkit_still.specs.Still.{Puts, bytes_at, label};
+ghost use Rattle.nl_testkit_still.specs.Stands.{IsFreshStill, IsStill};
+ghost use Rattle.nl_testkit_still.specs.Still.{PutsStill, bytes_at, label};
 
 use nl_field::{Memory, PageBuf, Shape, Tag};
 use std::alloc::Global;
@@ -49,7 +49,7 @@ impl Still {
         requires volume { IsVolumeShape shape }
         requires bounds { ShapeBounds shape }
         ensures formed { IfOk result IsStill }
-        ensures fresh { IfOk result (IsFresh shape) }
+        ensures fresh { IfOk result (IsFreshStill shape) }
     {
         let all = shape.blocks * shape.pages;
         let given = shape.vblocks * shape.pages;
@@ -75,7 +75,7 @@ impl Still {
         requires formed { IsStill self.old }
         requires room { 0 < self.old.room }
         requires stamp { self.old.next < 2 ^ 63 }
-        ensures { Puts tag from.now self.old self.new }
+        ensures { PutsStill tag from.now self.old self.new }
     {
         let at = self.given as usize;
         let label = Label {

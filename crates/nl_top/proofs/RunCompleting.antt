@@ -15,16 +15,16 @@ use Rattle.nl_script.specs.declared.refusal.ScriptRefusal.TheVariants.{Refused}
 use Rattle.std.proofs.lemmas.Bool.{lt-ltb}
 use Rattle.nl_script.specs.declared.why.Why.{Why}
 use Rattle.nl_script.specs.declared.why.Why.TheVariants.{Size}
-use Rattle.nl_tree.specs.Causes.{Counts, FaultRose, HasCause, MayBeWorn, fault_in}
+use Rattle.nl_tree.specs.Causes.{Counts, FaultRose, HasCause, MayBeExhausted, fault_in}
 use Rattle.nl_tree.specs.declared.call.Call.{Call}
 use Rattle.nl_tree.specs.declared.call.Line.{Line}
 use Rattle.nl_tree.specs.declared.reply.FaultReply.{FaultReply}
 use Rattle.nl_tree.specs.declared.reply.FaultReply.TheVariants.{Eio, Erofs, Eworn, Edamaged}
-use Rattle.nl_cmd_words.specs.Complete.{NothingRose, OpeningCompletes, StartsSound}
+use Rattle.nl_cmd_words.specs.Complete.{NothingRose, OpeningCompletes, StartsConsistent}
 use Rattle.nl_cmd_words.specs.Ends.{NotOpened, RefusesScript}
 use Rattle.nl_top.specs.Complete.{CountsLast, NoFaultAnswered, RunCompletes}
 use Rattle.nl_top.specs.Leaving.{Leaving}
-use Rattle.nl_top.specs.RunEnds.{Ran, RunEnds, ScriptEnds, TellsAnswers, not_run, ran, runs_script, script_refused, source_fault, source_no_memory}
+use Rattle.nl_top.specs.RunEnds.{Ran, RunEnds, ScriptEnds, PrintsAnswers, not_run, ran, runs_script, script_refused, source_fault, source_no_memory}
 
 -- ---- no fault reply has a cause
 
@@ -39,7 +39,7 @@ module _ (tells : Type 0) (before now : Counts) (next_stamp : ℕ) (told : tells
   writes_stay : (now.write_faults ≤ before.write_faults) × (now.write_faults < top)
   writes_stay = not_risen before.write_faults now.write_faults writes
 
-  never_worn : MayBeWorn before now next_stamp → ⊥
+  never_worn : MayBeExhausted before now next_stamp → ⊥
   never_worn (inl past) = omega (arith, past, writes_stay.0, stamps)
   never_worn (inr (inl c)) = omega (arith, c, clock)
   never_worn (inr (inr f)) = omega (arith, f, writes_stay.1)
@@ -82,7 +82,7 @@ script_of_long bytes long = ap (λ (b : Bool). if b then Err (Refused 0 0 Size) 
 -- ---- a run
 
 module _ (tells : Type 0) (source source' sink sink' : Stream) (medium medium' : Medium) (order : List Ordered) (syncs : List Synced) (status count : ℕ)
-    (opening_completes : OpeningCompletes tells) (starts : StartsSound tells medium count) (none : NothingRose source source' sink sink' medium medium') (last : CountsLast medium medium') where
+    (opening_completes : OpeningCompletes tells) (starts : StartsConsistent tells medium count) (none : NothingRose source source' sink sink' medium medium') (last : CountsLast medium medium') where
   not_opened : (text : List ℕ) → NotOpened tells medium medium' status text → RunCompletes status order
   not_opened text why = inr (opening_completes source source' sink sink' medium medium' status count text why starts none)
 
@@ -139,4 +139,4 @@ module _ (tells : Type 0) (source source' sink sink' : Stream) (medium medium' :
     script_completes leaves (source_fault three rose kept before) = absurd (none.source_stays rose)
     script_completes leaves (source_no_memory six kept before) = inr six
     script_completes leaves (script_refused line column why two refuses kept before) = absurd (refuses_not line column why refuses)
-    script_completes leaves (runs_script these reads ends) = lines_complete these TellsAnswers leaves ends
+    script_completes leaves (runs_script these reads ends) = lines_complete these PrintsAnswers leaves ends

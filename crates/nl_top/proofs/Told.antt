@@ -6,7 +6,7 @@ use Rattle.nl_spec_headline.specs.Streams.{Medium, Prints, Stream}
 use Rattle.nl_spec_headline.specs.declared.lists.Ordered.{Ordered}
 use Rattle.nl_spec_headline.specs.declared.lists.Synced.{Synced}
 use Rattle.nl_print.specs.Texts.{Answered, run_text}
-use Rattle.nl_cmd_course.specs.Rounds.{AreRoomyFor, AreTablesFor, HasRoomFor, LinesRan, order_of_rows, syncs_of_rows}
+use Rattle.nl_cmd_course.specs.Rounds.{AreRoomyFor, AreTablesFor, IsEmptyWithRoomFor, LinesRan, order_of_rows, syncs_of_rows}
 use Rattle.nl_cmd_course.specs.declared.charges.Charges.{Charges}
 use Rattle.nl_cmd_answers.specs.Rows.{PlacedRowsAreARun, rows_text, summary_text}
 use Rattle.nl_tree.specs.declared.call.Line.{Line}
@@ -14,7 +14,7 @@ use Rattle.nl_workers.specs.Table.{Row, TableState}
 use Rattle.nl_spec_headline.specs.Table.{Table}
 use Rattle.nl_top.specs.Leaving.{Leaving, prefixes_of}
 use Rattle.nl_top.specs.RunEnds.{RunEnds, ran}
-use Rattle.nl_top.specs.Telling.{Shows, told_text}
+use Rattle.nl_top.specs.Telling.{PrintsCourse, told_text}
 use Rattle.nl_top.specs.declared.telling.Told.{Told}
 use Rattle.nl_top.specs.declared.telling.Told.TheVariants.{Answers, Summary}
 
@@ -23,7 +23,7 @@ use Rattle.nl_top.specs.declared.telling.Told.TheVariants.{Answers, Summary}
 module _ (tells : Type 0) (lines : List Line) (leaves : Leaving → Type 0) (sink sink' : Stream) (medium medium' : Medium) (rows : List Row) (lost worn : Bool) (charges : Charges) (course : Course) (count status : ℕ)
     (runs : LinesRan tells lines (λ run. leaves (prefixes_of run)) medium medium' rows lost worn charges course) (opened : count ≡ course.count) where
   -- what is told of the rows shows the course
-  shows_it : (what : Told) → PlacedRowsAreARun → Shows what tells course (told_text what count charges rows)
+  shows_it : (what : Told) → PlacedRowsAreARun → PrintsCourse what tells course (told_text what count charges rows)
   shows_it Answers placed = λ few. ap (λ (n : ℕ). rows_text n rows) opened ∙ placed course.count rows (runs.places few) ∙ ap (run_text course.count) runs.said
   shows_it Summary placed = record {
     charges = charges;
@@ -33,9 +33,9 @@ module _ (tells : Type 0) (lines : List Line) (leaves : Leaving → Type 0) (sin
 
   pub was_told : (what : Told) → PlacedRowsAreARun → (order : List Ordered) (syncs : List Synced) → order ≡ order_of_rows rows → syncs ≡ syncs_of_rows rows
       → Prints sink sink' (told_text what count charges rows) → DoneStatus status (RunFailed order medium.counts medium'.counts lost worn) sink sink' (told_text what count charges rows)
-      → RunEnds tells lines (Shows what tells) leaves sink sink' medium medium' order syncs status
+      → RunEnds tells lines (PrintsCourse what tells) leaves sink sink' medium medium' order syncs status
   was_told what placed order syncs is_order is_syncs prints done =
-      subst (λ (x : List Ordered × List Synced). RunEnds tells lines (Shows what tells) leaves sink sink' medium medium' x.0 x.1 status) (λ i. (sym is_order i, sym is_syncs i))
+      subst (λ (x : List Ordered × List Synced). RunEnds tells lines (PrintsCourse what tells) leaves sink sink' medium medium' x.0 x.1 status) (λ i. (sym is_order i, sym is_syncs i))
       (ran (record {
         course = course;
         lost = lost;
@@ -53,6 +53,6 @@ pub room_for : (lines : List Line) (rows : List Row) (answers : TableState) (ord
     → order' ≡ order → syncs' ≡ syncs → AreRoomyFor rows order' syncs'
 room_for lines rows answers order order' syncs syncs' many tables same_order same_syncs =
     record {
-      order_room = subst (λ (x : ℕ × Table Ordered). HasRoomFor x.0 x.1) (λ i. (sym many i, sym same_order i)) tables.order_room;
-      syncs_room = subst (λ (x : ℕ × Table Synced). HasRoomFor x.0 x.1) (λ i. (sym many i, sym same_syncs i)) tables.syncs_room;
+      order_room = subst (λ (x : ℕ × Table Ordered). IsEmptyWithRoomFor x.0 x.1) (λ i. (sym many i, sym same_order i)) tables.order_room;
+      syncs_room = subst (λ (x : ℕ × Table Synced). IsEmptyWithRoomFor x.0 x.1) (λ i. (sym many i, sym same_syncs i)) tables.syncs_room;
     }

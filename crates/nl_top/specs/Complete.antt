@@ -3,7 +3,7 @@ use Rattle.std.specs.Prelude.{◌≡◌, ◌⊎◌, ⊤, ℕ, ◌+◌, ◌-◌, 
 use Rattle.std.specs.List.{list_any}
 use Rattle.nl_field.specs.CrashStates.{top}
 use Rattle.nl_field.specs.Scan.{next_stamp_of}
-use Rattle.nl_cmd_words.specs.Complete.{Completes, StartsSound}
+use Rattle.nl_cmd_words.specs.Complete.{IsCarriedOut, StartsConsistent}
 use Rattle.nl_cmd_words.specs.declared.command.Command.{Command}
 use Rattle.nl_cmd_words.specs.declared.command.Command.TheVariants.{Check, Format, Report, Run, Soak, Tree}
 use Rattle.nl_spec_headline.specs.Streams.{Medium, Stream}
@@ -29,12 +29,12 @@ RunCompletes status order = ((status ≡ 0) × NoFaultAnswered order) ⊎ (statu
 -- counts last, the script that the source has left is run on it, and a soak, and no answer is a fault reply.
 abbrev pub CarriesOut : Option Command → Type 0 → Stream → Medium → Medium → List Ordered → ℕ → Type 0
 CarriesOut None tells source medium medium' order status = ⊤
-CarriesOut (Some (Format blocks pages)) tells source medium medium' order status = Completes status
+CarriesOut (Some (Format blocks pages)) tells source medium medium' order status = IsCarriedOut status
 CarriesOut (Some Run) tells source medium medium' order status =
-    (bytes : List ℕ) (lines : List Line) (count : ℕ) → source.bytes ≡ Some bytes → script bytes ≡ Ok lines → StartsSound tells medium count
+    (bytes : List ℕ) (lines : List Line) (count : ℕ) → source.bytes ≡ Some bytes → script bytes ≡ Ok lines → StartsConsistent tells medium count
     → CountsLast medium medium' → RunCompletes status order
-CarriesOut (Some Check) tells source medium medium' order status = (count : ℕ) → StartsSound tells medium count → Completes status
-CarriesOut (Some Tree) tells source medium medium' order status = (count : ℕ) → StartsSound tells medium count → Completes status
-CarriesOut (Some Report) tells source medium medium' order status = (count : ℕ) → StartsSound tells medium count → Completes status
+CarriesOut (Some Check) tells source medium medium' order status = (count : ℕ) → StartsConsistent tells medium count → IsCarriedOut status
+CarriesOut (Some Tree) tells source medium medium' order status = (count : ℕ) → StartsConsistent tells medium count → IsCarriedOut status
+CarriesOut (Some Report) tells source medium medium' order status = (count : ℕ) → StartsConsistent tells medium count → IsCarriedOut status
 CarriesOut (Some (Soak seed lines workers)) tells source medium medium' order status =
-    (count : ℕ) → StartsSound tells medium count → CountsLast medium medium' → RunCompletes status order
+    (count : ℕ) → StartsConsistent tells medium count → CountsLast medium medium' → RunCompletes status order

@@ -10,31 +10,31 @@ use Rattle.nl_spec_headline.specs.declared.lists.Ordered.{Ordered}
 use Rattle.nl_spec_headline.specs.declared.lists.Synced.{Synced}
 use Rattle.nl_script.specs.Script.{script}
 use Rattle.nl_tree.specs.declared.call.Line.{Line}
-use Rattle.nl_cmd_view.specs.Looking.{LookEnds, Reports, TreeEnds}
+use Rattle.nl_cmd_view.specs.Looking.{LookEnds, ReportsImage, TreeEnds}
 use Rattle.nl_top.specs.Leaving.{Leaving, new_volume, nothing_new}
 use Rattle.nl_top.specs.RunEnds.{RunEnds, ScriptEnds}
 use Rattle.nl_top.specs.Soak.{Summarises}
 
 -- Each call ends in one of these ways, by its words.
-pub data Ends (tells : Type 0) (words : List (List ℕ)) (leaves : Leaving → Type 0) (source source' sink sink' : Stream) (medium medium' : Medium) (order : List Ordered) (syncs : List Synced) (status : ℕ) : Type 0 where
+pub data CallEnds (tells : Type 0) (words : List (List ℕ)) (leaves : Leaving → Type 0) (source source' sink sink' : Stream) (medium medium' : Medium) (order : List Ordered) (syncs : List Synced) (status : ℕ) : Type 0 where
   faulty_words : command_of words ≡ None → status ≡ 2 → source' ≡ source → leaves nothing_new
       → EndsBefore tells (codes "words\n") sink sink' medium medium' order syncs
-      → Ends tells words leaves source source' sink sink' medium medium' order syncs status
+      → CallEnds tells words leaves source source' sink sink' medium medium' order syncs status
   runs : command_of words ≡ Some RunScript → ScriptEnds tells leaves source source' sink sink' medium medium' order syncs status
-      → Ends tells words leaves source source' sink sink' medium medium' order syncs status
+      → CallEnds tells words leaves source source' sink sink' medium medium' order syncs status
   formats : (blocks pages : ℕ) → command_of words ≡ Some (Format blocks pages) → source' ≡ source → leaves new_volume
       → FormatEnds tells blocks pages sink sink' medium medium' order syncs status
-      → Ends tells words leaves source source' sink sink' medium medium' order syncs status
+      → CallEnds tells words leaves source source' sink sink' medium medium' order syncs status
   checks : command_of words ≡ Some Check → source' ≡ source → leaves nothing_new
       → CheckEnds tells sink sink' medium medium' order syncs status
-      → Ends tells words leaves source source' sink sink' medium medium' order syncs status
+      → CallEnds tells words leaves source source' sink sink' medium medium' order syncs status
   shows_tree : command_of words ≡ Some TreeCommand → source' ≡ source → leaves nothing_new
       → TreeEnds tells sink sink' medium medium' order syncs status
-      → Ends tells words leaves source source' sink sink' medium medium' order syncs status
+      → CallEnds tells words leaves source source' sink sink' medium medium' order syncs status
   reports : command_of words ≡ Some Report → source' ≡ source → leaves nothing_new
-      → LookEnds tells Reports sink sink' medium medium' order syncs status
-      → Ends tells words leaves source source' sink sink' medium medium' order syncs status
+      → LookEnds tells ReportsImage sink sink' medium medium' order syncs status
+      → CallEnds tells words leaves source source' sink sink' medium medium' order syncs status
   soaks : (seed count workers : ℕ) (lines : List Line) → command_of words ≡ Some (Soak seed count workers) → source' ≡ source
       → script (soak_text seed count workers) ≡ Ok lines
       → RunEnds tells lines (Summarises tells) leaves sink sink' medium medium' order syncs status
-      → Ends tells words leaves source source' sink sink' medium medium' order syncs status
+      → CallEnds tells words leaves source source' sink sink' medium medium' order syncs status

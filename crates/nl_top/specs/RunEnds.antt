@@ -16,8 +16,8 @@ use Rattle.nl_cmd_words.specs.Ends.{EndsBefore, NotOpened, RefusesScript}
 use Rattle.nl_top.specs.Leaving.{Leaving, nothing_new, prefixes_of}
 
 -- what is printed of a course by a run: its text, where places have not ended
-abbrev pub TellsAnswers : Course → List ℕ → Type 0
-TellsAnswers course text = count_after course < 2 ^ 63 → text ≡ text_in course
+abbrev pub PrintsAnswers : Course → List ℕ → Type 0
+PrintsAnswers course text = count_after course < 2 ^ 63 → text ≡ text_in course
 
 -- The lines were run, and a text was printed that shows their one course.
 pub record Ran (tells : Type 0) (lines : List Line) (shows : Course → List ℕ → Type 0) (leaves : Leaving → Type 0) (sink sink' : Stream) (medium medium' : Medium) (order : List Ordered) (syncs : List Synced) (status : ℕ) : Type 0 where
@@ -50,5 +50,5 @@ pub data ScriptEnds (tells : Type 0) (leaves : Leaving → Type 0) (source sourc
       → leaves nothing_new → EndsBefore tells (refused_text line column (cause_word why)) sink sink' medium medium' order syncs
       → ScriptEnds tells leaves source source' sink sink' medium medium' order syncs status
   runs_script : (lines : List Line) → ReadsScript source source' lines
-      → RunEnds tells lines TellsAnswers leaves sink sink' medium medium' order syncs status
+      → RunEnds tells lines PrintsAnswers leaves sink sink' medium medium' order syncs status
       → ScriptEnds tells leaves source source' sink sink' medium medium' order syncs status

@@ -4,7 +4,7 @@ use Rattle.nl_spec_headline.specs.Course.{Course}
 use Rattle.nl_cmd_course.specs.declared.charges.Charges.{Charges}
 use Rattle.nl_cmd_answers.specs.Rows.{rows_text, said, summary_text}
 use Rattle.nl_workers.specs.Table.{Row}
-use Rattle.nl_top.specs.RunEnds.{TellsAnswers}
+use Rattle.nl_top.specs.RunEnds.{PrintsAnswers}
 use Rattle.nl_top.specs.Soak.{Summarises}
 use Rattle.nl_top.specs.declared.telling.Told.{Told}
 use Rattle.nl_top.specs.declared.telling.Told.TheVariants.{Answers, Summary}
@@ -15,6 +15,6 @@ told_text Answers count charges rows = rows_text count rows
 told_text Summary count charges rows = summary_text (map said rows) charges.pages charges.nodes charges.meta
 
 -- of the course
-abbrev pub Shows : Told → Type 0 → Course → List ℕ → Type 0
-Shows Answers tells = TellsAnswers
-Shows Summary tells = Summarises tells
+abbrev pub PrintsCourse : Told → Type 0 → Course → List ℕ → Type 0
+PrintsCourse Answers tells = PrintsAnswers
+PrintsCourse Summary tells = Summarises tells

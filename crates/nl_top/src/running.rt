@@ -3,7 +3,7 @@ ghost use Rattle.std.specs.Prelude.{◌≡◌};
 ghost use Rattle.nl_spec_headline.specs.Streams.{medium_seen, sink_seen, source_seen};
 ghost use Rattle.nl_top.specs.Leaving.{leaves_within};
 ghost use Rattle.nl_top.specs.RunEnds.{RunEnds, ScriptEnds};
-ghost use Rattle.nl_top.specs.Telling.{Shows};
+ghost use Rattle.nl_top.specs.Telling.{PrintsCourse};
 
 use crate::telling::{Told, tell};
 use nl_cmd_answers::laws::placed_rows_are_a_run;
@@ -56,7 +56,7 @@ pub(crate) fn run_on<Rt: Threads + Wait + Sync, K: Sink, M: Nand + Send, G: Gate
     media: M,
     gate: &G,
 ) -> Done<M>
-    ensures { RunEnds M.tells lines.now (Shows told M.tells) (leaves_within M.Nand media result.media) (sink_seen K.Sink sink.old)
+    ensures { RunEnds M.tells lines.now (PrintsCourse told M.tells) (leaves_within M.Nand media result.media) (sink_seen K.Sink sink.old)
         (sink_seen K.Sink sink.new) (medium_seen M.Nand media) (medium_seen M.Nand result.media)
         result.order.items result.syncs.items result.status }
 {

@@ -3,7 +3,7 @@ ghost use Rattle.std.specs.Prelude.{◌≡◌, ◌≤◌, ◌||◌};
 ghost use Rattle.nl_field.specs.CrashStates.{Rose};
 ghost use Rattle.nl_spec_headline.specs.Status.{DoneStatus, RunFailed};
 ghost use Rattle.nl_spec_headline.specs.Streams.{Prints, sink_seen};
-ghost use Rattle.nl_io.specs.Streams.{Writes};
+ghost use Rattle.nl_io.specs.Streams.{WritesStream};
 ghost use Rattle.nl_cmd_course.specs.Rounds.{AreRoomyFor, order_of_rows, syncs_of_rows};
 ghost use Rattle.nl_top.specs.Telling.{told_text};
 
@@ -76,7 +76,7 @@ fn print<K: Sink>(
     charges: Charges,
     answers: &AnswerTable,
 ) -> SinkAnswer
-    ensures text { Writes (K.taken sink.old) (K.taken sink.new) result (told_text told count charges answers.now.rows) }
+    ensures text { WritesStream (K.taken sink.old) (K.taken sink.new) result (told_text told count charges answers.now.rows) }
     ensures never_falls { K.faults sink.old ≤ K.faults sink.new }
     ensures cause { result ≡ SinkAnswer.Failed → Rose (K.faults sink.old) (K.faults sink.new) }
 {

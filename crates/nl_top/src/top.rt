@@ -3,7 +3,7 @@ ghost use Rattle.nl_cmd_words.specs.Command.{command_of};
 ghost use Rattle.nl_cmd_words.specs.Complete.{NothingRose};
 ghost use Rattle.nl_spec_headline.specs.Streams.{medium_seen, sink_seen, source_seen};
 ghost use Rattle.nl_top.specs.Complete.{CarriesOut};
-ghost use Rattle.nl_top.specs.Ends.{Ends};
+ghost use Rattle.nl_top.specs.Ends.{CallEnds};
 ghost use Rattle.nl_top.specs.Leaving.{leaves_within};
 
 use crate::running::run;
@@ -44,7 +44,7 @@ pub fn nameless<Rt: Threads + Wait + Sync, S: Source, K: Sink, M: Nand + Send, G
     media: M,
     gate: &G,
 ) -> Done<M>
-    ensures ended { Ends M.tells words.now (leaves_within M.Nand media result.media)
+    ensures ended { CallEnds M.tells words.now (leaves_within M.Nand media result.media)
         (source_seen S.Source src.old) (source_seen S.Source src.new) (sink_seen K.Sink sink.old) (sink_seen K.Sink sink.new)
         (medium_seen M.Nand media) (medium_seen M.Nand result.media) result.order.items result.syncs.items result.status }
 

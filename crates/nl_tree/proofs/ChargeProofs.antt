@@ -18,7 +18,7 @@ use Rattle.nl_tree.specs.GraphLaws.{NamedOnce}
 use Rattle.nl_field.specs.Members.{Has}
 use Rattle.nl_tree.specs.TreeOfNodes.{tree_of}
 use Rattle.nl_tree.specs.CountLaws.{Differ}
-use Rattle.nl_tree.specs.NodeCharges.{ReachedNodes, NamesDiffer, pages_in, entry_pages_in, ranges_in, NodeCharges}
+use Rattle.nl_tree.specs.NodeCharges.{ReachedNodes, EntryNamesDiffer, pages_in, entry_pages_in, ranges_in, NodeCharges}
 use Rattle.nl_tree.proofs.TreeProofs.{tree_laws, eq_path, find_all, sorted_all, from_T, under_append, under_parts}
 use Rattle.nl_tree.proofs.GraphProofs.{inside, not_none, not_true, one_path_to, names_eq, eq_name, name_eq}
 use Rattle.nl_tree.proofs.ChangeProofs.{at_end, some, false_true}
@@ -96,12 +96,12 @@ in_rest e es x m none at =
     ap (λ t. cond t (Some e.1) (node_named x es))
     (not_true (names_eq x e.0) (λ h. absurd (not_none m (sym none ∙ ap (λ (z : List ℕ). node_named z es) (sym (eq_name x e.0 h)) ∙ at)))) ∙ at
 
-in_named : (m : ℕ) (es : List (List ℕ × ℕ)) → NamesDiffer es → Has (numbers es) m → (x : List ℕ) × (node_named x es ≡ Some m)
+in_named : (m : ℕ) (es : List (List ℕ × ℕ)) → EntryNamesDiffer es → Has (numbers es) m → (x : List ℕ) × (node_named x es ≡ Some m)
 in_named m [] d h = absurd h
 in_named m (y ∷ es) d (inl e) = (y.0, at_head y es ∙ some e)
 in_named m (y ∷ es) d (inr h) = let r = in_named m es d.1 h in (r.0, in_rest y es r.0 m d.0 r.1)
 
-differ_numbers : (es : List (List ℕ × ℕ)) → NamesDiffer es → ((x y : List ℕ) (m : ℕ) → node_named x es ≡ Some m → node_named y es ≡ Some m → x ≡ y) → Differ (numbers es)
+differ_numbers : (es : List (List ℕ × ℕ)) → EntryNamesDiffer es → ((x y : List ℕ) (m : ℕ) → node_named x es ≡ Some m → node_named y es ≡ Some m → x ≡ y) → Differ (numbers es)
 differ_numbers [] d one = tt
 differ_numbers (e ∷ es) d one =
     ((λ h. again (in_named e.1 es d.1 h)), differ_numbers es d.1 (λ x y m a b. one x y m (in_rest e es x m d.0 a) (in_rest e es y m d.0 b)))
@@ -216,7 +216,7 @@ module _ (b : ℕ → List ℕ) (g : Graph) (path_of : ℕ → List (List ℕ)) 
         sum_by-map f (λ e. e.1) tree ∙ sum_over (λ e. f e.1)
         ∙ same_sums (λ n. f (node n)) (λ n. h (g n).body) ns (λ n i. same (g n).body (node n) (member Is ns n reached.each i).1)
 
-    entries_count : (n : ℕ) → Has ns n → NamesDiffer (entries_in (g n).body) → length (entries_of tree (path_of n)) ≡ length (entries_in (g n).body)
+    entries_count : (n : ℕ) → Has ns n → EntryNamesDiffer (entries_in (g n).body) → length (entries_of tree (path_of n)) ≡ length (entries_in (g n).body)
     unfolding entries_of
     entries_count n i d =
         length-filter (λ e. is_child (path_of n) e.0) tree ∙ sum_over (λ e. cond (is_child (path_of n) e.0) 1 0)
@@ -244,13 +244,13 @@ module _ (b : ℕ → List ℕ) (g : Graph) (path_of : ℕ → List (List ℕ)) 
             to_filter (λ m. is_child (path_of n) (path_of m)) ns m listed_m
             (ap (is_child (path_of n)) (one_path_to g once m (path_of m) (path_of n ++ r.0 ∷ []) (member Is ns m reached.each listed_m).0 at_m) ∙ is_child_of (path_of n) r.0)
 
-    meta : AllByRecursion (λ n. NamesDiffer (entries_in (g n).body)) ns → meta_charge tree ≡ sum_by (λ n. entry_pages_in (g n).body) ns + sum_by (λ n. ranges_in (g n).body) ns
+    meta : AllByRecursion (λ n. EntryNamesDiffer (entries_in (g n).body)) ns → meta_charge tree ≡ sum_by (λ n. entry_pages_in (g n).body) ns + sum_by (λ n. ranges_in (g n).body) ns
     unfolding meta_charge all_paths
     meta differ =
         ap (λ (k : ℕ). k + sum_by ranges_of_node (all_nodes tree))
         (sum_over (λ e. div_ceil (length (entries_of tree e.0)) 64)
         ∙ same_sums (λ n. div_ceil (length (entries_of tree (path_of n))) 64) (λ n. entry_pages_in (g n).body) ns
-        (λ n i. ap (λ (k : ℕ). div_ceil k 64) (entries_count n i (member (λ n. NamesDiffer (entries_in (g n).body)) ns n differ i))))
+        (λ n i. ap (λ (k : ℕ). div_ceil k 64) (entries_count n i (member (λ n. EntryNamesDiffer (entries_in (g n).body)) ns n differ i))))
         ∙ ap (λ (k : ℕ). sum_by (λ n. entry_pages_in (g n).body) ns + k) (of_nodes ranges_of_node ranges_in (ranges_same b))
 
     pages : data_charge tree ≡ sum_by (λ n. pages_in (g n).body) ns

@@ -91,8 +91,8 @@ abbrev pub IsSumSince : Counts → Counts → ℕ → Type 0
 IsSumSince before now n = ((fault_sum before < n) ⊎ (n ≡ top)) × (n ≤ fault_sum now)
 
 -- the stamps may have reached their limit, from this next stamp on
-abbrev pub MayBeWorn : Counts → Counts → ℕ → Type 0
-MayBeWorn before now next_stamp =
+abbrev pub MayBeExhausted : Counts → Counts → ℕ → Type 0
+MayBeExhausted before now next_stamp =
     (max_stamp ≤ next_stamp + (now.clock - before.clock) + (now.write_faults - before.write_faults))
     ⊎ ((now.clock ≡ top) ⊎ (now.write_faults ≡ top))
 
@@ -100,7 +100,7 @@ MayBeWorn before now next_stamp =
 abbrev pub HasCause : Type 0 → Counts → Counts → ℕ → Call → FaultReply → Type 0
 HasCause tells before now next_stamp call (Eio n) = IsSumSince before now n
 HasCause tells before now next_stamp call (Erofs n) = IsTrue (is_changing call) × WriteFailed before now × IsSumSince before now n
-HasCause tells before now next_stamp call Eworn = IsTrue (is_changing call) × MayBeWorn before now next_stamp
+HasCause tells before now next_stamp call Eworn = IsTrue (is_changing call) × MayBeExhausted before now next_stamp
 HasCause tells before now next_stamp call (Edamaged wanted found) = LostHasCause tells wanted found
 
 -- the number of a failed line, and of a line that a read-only volume refused

@@ -20,9 +20,9 @@ pub record ReachedNodes (bytes_of : ℕ → List ℕ) (graph : Graph) (ns : List
   pub differ : Differ ns
 
 -- no name stands twice
-abbrev pub NamesDiffer : List (List ℕ × ℕ) → Type 0
-NamesDiffer [] = Unit {0}
-NamesDiffer (e ∷ es) = (node_named e.0 es ≡ None) × NamesDiffer es
+abbrev pub EntryNamesDiffer : List (List ℕ × ℕ) → Type 0
+EntryNamesDiffer [] = Unit {0}
+EntryNamesDiffer (e ∷ es) = (node_named e.0 es ≡ None) × EntryNamesDiffer es
 
 -- pages of files
 abbrev pub pages_in : NodeBody → ℕ
@@ -55,6 +55,6 @@ pub record NodeCharges : Type 0 where
       → data_charge tree ≡ sum_by (λ n. pages_in (graph n).body) ns
   pub meta : (bytes_of : ℕ → List ℕ) (graph : Graph) (tree : Tree) (ns : List ℕ) (path_of : ℕ → List (List ℕ)) (node_at_number : ℕ → Node)
       → NamedOnce graph → ReachedNodes bytes_of graph ns path_of node_at_number
-      → AllByRecursion (λ n. NamesDiffer (entries_in (graph n).body)) ns
+      → AllByRecursion (λ n. EntryNamesDiffer (entries_in (graph n).body)) ns
       → IsInOrder tree → Represents bytes_of graph tree
       → meta_charge tree ≡ sum_by (λ n. entry_pages_in (graph n).body) ns + sum_by (λ n. ranges_in (graph n).body) ns

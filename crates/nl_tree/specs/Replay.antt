@@ -23,10 +23,10 @@ abbrev pub answer_due : Shape → Tree → List (Call × Option FaultReply) → 
 answer_due shape tree calls i = option_map (step_marked shape (replay shape tree (take i calls))) (slice_get calls i)
 
 -- A reply is as due; of a sync both numbers are open.
-abbrev pub Fits : Reply → Reply → Type 0
-Fits (Synced due_upto due_moment) reply = (upto : ℕ) × (moment : ℕ) × (reply ≡ Synced upto moment)
-Fits due reply = reply ≡ due
+abbrev pub ReplyFits : Reply → Reply → Type 0
+ReplyFits (Synced due_upto due_moment) reply = (upto : ℕ) × (moment : ℕ) × (reply ≡ Synced upto moment)
+ReplyFits due reply = reply ≡ due
 
 -- A reply and the bytes with it are an answer as due.
 abbrev pub Answers : Outcome → Reply → List ℕ → Type 0
-Answers outcome reply bytes = Fits outcome.reply reply × (bytes ≡ outcome.bytes)
+Answers outcome reply bytes = ReplyFits outcome.reply reply × (bytes ≡ outcome.bytes)

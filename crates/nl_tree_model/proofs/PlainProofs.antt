@@ -6,7 +6,7 @@ use Rattle.nl_tree_entries.proofs.ListingProofs.{short-where}
 use Rattle.nl_tree.proofs.SpaceProofs.{few_meta, few_pages, lacks_nothing}
 use Rattle.nl_tree.proofs.StepProofs.{order_after}
 use Rattle.nl_tree.specs.Charges.{data_charge, node_charge, meta_charge}
-use Rattle.nl_tree_model.specs.PlainTree.{AreCharges, IsPlain}
+use Rattle.nl_tree_model.specs.PlainTree.{ArePageCharges, IsPlainTree}
 use Rattle.nl_tree_entries.specs.Entries.{HasShortNames}
 use Rattle.nl_tree.specs.Step.{refusal_before, space_refusal, effect_of, when, first_of, own_refusal, is_too_long, paths_of}
 use Rattle.nl_tree.specs.Tree.{Node, directory, file, Tree, path_cmp, paths_eq, is_at_or_under, entries_of, all_nodes, all_paths, empty_tree, with_new, with_content, without, last_name, with_all, with_renamed}
@@ -130,14 +130,14 @@ short_after tree (ListCall path) s h = h
 short_after tree Sync s h = h
 short_after tree Clean s h = h
 
-pub plain_after : (shape : Shape) (tree next : Tree) (call : Call) → None ≡ refusal_before tree call → next ≡ (effect_of tree call).tree → None ≡ space_refusal shape next → IsPlain shape tree → IsPlain shape next
+pub plain_after : (shape : Shape) (tree next : Tree) (call : Call) → None ≡ refusal_before tree call → next ≡ (effect_of tree call).tree → None ≡ space_refusal shape next → IsPlainTree shape tree → IsPlainTree shape next
 plain_after shape tree next call h is room plain = record {
   in_order = subst IsInOrder (sym is) (order_after tree call plain.in_order);
   short = subst HasShortNames (sym is) (short_after tree call (not_long tree call h) plain.short);
   room = sym room;
 }
 
-pub new_plain : (shape : Shape) → 0 < shape.nodes → IsPlain shape empty_tree
+pub new_plain : (shape : Shape) → 0 < shape.nodes → IsPlainTree shape empty_tree
 unfolding entries_of node_charge meta_charge data_charge all_nodes all_paths
 new_plain shape some = record {
   in_order = refl;
@@ -147,13 +147,13 @@ new_plain shape some = record {
 
 -- ---- the sums beside it
 
-pub small_sums : (shape : Shape) (t : Tree) (pages meta : ℕ) → None ≡ space_refusal shape t → AreCharges pages meta t → (pages ≤ shape.cap) × (meta ≤ shape.meta)
+pub small_sums : (shape : Shape) (t : Tree) (pages meta : ℕ) → None ≡ space_refusal shape t → ArePageCharges pages meta t → (pages ≤ shape.cap) × (meta ≤ shape.meta)
 small_sums shape t pages meta room kept =
     (most _ _ _ kept.of_data (few_pages shape t (sym room)), most _ _ _ kept.of_meta (few_meta shape t (sym room)))
   where
     most : (n sum limit : ℕ) → n ≡ sum → nat_lt limit sum ≡ false → n ≤ limit
     most n sum limit e h = grind (arith, nat_tests, e, h)
 
-pub new_charges : AreCharges 0 0 empty_tree
+pub new_charges : ArePageCharges 0 0 empty_tree
 unfolding entries_of meta_charge data_charge all_nodes all_paths
 new_charges = record { of_data = refl; of_meta = refl }

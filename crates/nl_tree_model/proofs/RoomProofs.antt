@@ -11,7 +11,7 @@ use Rattle.nl_field.specs.declared.shape.Shape.{Shape}
 use Rattle.nl_tree.specs.Step.{listing}
 use Rattle.nl_tree.specs.Charges.{data_charge, data_of_node}
 use Rattle.nl_tree.specs.Tree.{Tree, file, path_cmp, node_at, entries_of}
-use Rattle.nl_tree_model.specs.PlainTree.{IsRoomy, IsPlain}
+use Rattle.nl_tree_model.specs.PlainTree.{IsRoomy, IsPlainTree}
 use Rattle.nl_tree.specs.KeptSums.{data_of_entry}
 use Rattle.nl_tree.proofs.TreeProofs.{eq_path}
 use Rattle.nl_tree.proofs.SpaceProofs.{data-is, few_entries, few_pages}
@@ -43,7 +43,7 @@ pages_at (e ∷ tree) path content there =
       | false ↦ λ k. omega (arith, sum, pages_at tree path content k)
     ] there
 
-pub roomy : (shape : Shape) (tree : Tree) → shape.cap < 2 ^ 32 → IsPlain shape tree → IsRoomy tree
+pub roomy : (shape : Shape) (tree : Tree) → shape.cap < 2 ^ 32 → IsPlainTree shape tree → IsRoomy tree
 unfolding node_at
 roomy shape tree small plain = record {
   short = plain.short;

@@ -18,7 +18,7 @@ pub record IsRoomy (tree : Tree) : Type 0 where
   pub pages : (path : List (List ℕ)) (content : FileContent) → node_at tree path ≡ Some (file content) → length content.pages < 2 ^ 32
 
 -- what the plain tree as a program keeps of its tree
-pub record IsPlain (shape : Shape) (tree : Tree) : Type 0 where
+pub record IsPlainTree (shape : Shape) (tree : Tree) : Type 0 where
   pub in_order : IsInOrder tree
   pub short : HasShortNames tree
   pub room : space_refusal shape tree ≡ None
@@ -35,6 +35,6 @@ numbered calls (Synced upto moment) = Synced calls 0
 numbered calls reply = reply
 
 -- the data pages and the metadata pages of a tree
-pub record AreCharges (pages meta : ℕ) (tree : Tree) : Type 0 where
+pub record ArePageCharges (pages meta : ℕ) (tree : Tree) : Type 0 where
   pub of_data : pages ≡ data_charge tree
   pub of_meta : meta ≡ meta_charge tree

@@ -5,7 +5,7 @@ ghost use Rattle.nl_field.specs.declared.shape.Shape.{Shape};
 ghost use Rattle.nl_tree.specs.Tree.{empty_tree};
 ghost use Rattle.nl_tree.specs.Step.{step, effect_of, space_refusal, refusal_before};
 ghost use Rattle.nl_tree.specs.Calls.{HasFewBytes};
-ghost use Rattle.nl_tree_model.specs.PlainTree.{PlainState, IsPlain, numbered, AreCharges};
+ghost use Rattle.nl_tree_model.specs.PlainTree.{PlainState, IsPlainTree, numbered, ArePageCharges};
 ghost use Rattle.nl_tree.specs.KeptSums.{changed_path};
 
 mod after;
@@ -34,13 +34,13 @@ pub struct Plain {
 }
 
 impl Model for Plain {
-    ghost use Rattle.nl_tree_model.specs.PlainTree.{PlainState, IsPlain, AreCharges};
+    ghost use Rattle.nl_tree_model.specs.PlainTree.{PlainState, IsPlainTree, ArePageCharges};
 
     ghost Value = { PlainState };
 
     ghost view = { λ p. record { shape = p.shape; tree = p.tree.items; calls = p.calls } };
 
-    ghost invariant = { λ p. IsPlain p.shape p.tree.items × AreCharges p.sums.pages p.sums.meta p.tree.items };
+    ghost invariant = { λ p. IsPlainTree p.shape p.tree.items × ArePageCharges p.sums.pages p.sums.meta p.tree.items };
 }
 
 impl Plain {
@@ -98,14 +98,14 @@ fn answer(
     out: &mut ReplyBuf,
 ) -> Result<Reply, Memory>
     requires bounded { HasFewBytes call.now }
-    requires plain { IsPlain shape tree.old.items }
-    requires kept { AreCharges sums.old.pages sums.old.meta tree.old.items }
+    requires plain { IsPlainTree shape tree.old.items }
+    requires kept { ArePageCharges sums.old.pages sums.old.meta tree.old.items }
     requires empty { out.old ≡ [] }
     ensures reply { IfOk result (λ r. r ≡ numbered calls (step shape tree.old.items call.now).reply) }
     ensures bytes { OnOk result (out.new ≡ (step shape tree.old.items call.now).bytes) }
     ensures tree { OnOk result (tree.new.items ≡ (step shape tree.old.items call.now).tree) }
-    ensures plain { IsPlain shape tree.new.items }
-    ensures kept { AreCharges sums.new.pages sums.new.meta tree.new.items }
+    ensures plain { IsPlainTree shape tree.new.items }
+    ensures kept { ArePageCharges sums.new.pages sums.new.meta tree.new.items }
     ensures unchanged { OnErr result (tree.new.items ≡ tree.old.items) }
     ensures cleared { OnErr result (out.new ≡ []) }
 {
@@ -134,14 +134,14 @@ fn perform(
 ) -> Result<Reply, Memory>
     requires bounded { HasFewBytes call.now }
     requires passes { None ≡ refusal_before tree.old.items call.now }
-    requires plain { IsPlain shape tree.old.items }
-    requires kept { AreCharges sums.old.pages sums.old.meta tree.old.items }
+    requires plain { IsPlainTree shape tree.old.items }
+    requires kept { ArePageCharges sums.old.pages sums.old.meta tree.old.items }
     requires empty { out.old ≡ [] }
     ensures reply { IfOk result (λ r. r ≡ numbered calls (step shape tree.old.items call.now).reply) }
     ensures bytes { OnOk result (out.new ≡ (step shape tree.old.items call.now).bytes) }
     ensures tree { OnOk result (tree.new.items ≡ (step shape tree.old.items call.now).tree) }
-    ensures plain { IsPlain shape tree.new.items }
-    ensures kept { AreCharges sums.new.pages sums.new.meta tree.new.items }
+    ensures plain { IsPlainTree shape tree.new.items }
+    ensures kept { ArePageCharges sums.new.pages sums.new.meta tree.new.items }
     ensures unchanged { OnErr result (tree.new.items ≡ tree.old.items) }
     ensures cleared { OnErr result (out.new ≡ []) }
 {
@@ -171,7 +171,7 @@ fn stay(
 ) -> Reply
     requires bounded { HasFewBytes call.now }
     requires passes { None ≡ refusal_before tree.now.items call.now }
-    requires plain { IsPlain shape tree.now.items }
+    requires plain { IsPlainTree shape tree.now.items }
     requires same { tree.now.items ≡ (effect_of tree.now.items call.now).tree }
     requires empty { out.old ≡ [] }
     ensures reply { result ≡ numbered calls (step shape tree.now.items call.now).reply }
@@ -194,15 +194,15 @@ fn settle(
 ) -> Reply
     requires bounded { HasFewBytes call.now }
     requires passes { None ≡ refusal_before tree.old.items call.now }
-    requires plain { IsPlain shape tree.old.items }
-    requires kept { AreCharges sums.old.pages sums.old.meta tree.old.items }
+    requires plain { IsPlainTree shape tree.old.items }
+    requires kept { ArePageCharges sums.old.pages sums.old.meta tree.old.items }
     requires changed { next.items ≡ (effect_of tree.old.items call.now).tree }
     requires empty { out.old ≡ [] }
     ensures reply { result ≡ numbered calls (step shape tree.old.items call.now).reply }
     ensures bytes { out.new ≡ (step shape tree.old.items call.now).bytes }
     ensures tree { tree.new.items ≡ (step shape tree.old.items call.now).tree }
-    ensures plain { IsPlain shape tree.new.items }
-    ensures kept { AreCharges sums.new.pages sums.new.meta tree.new.items }
+    ensures plain { IsPlainTree shape tree.new.items }
+    ensures kept { ArePageCharges sums.new.pages sums.new.meta tree.new.items }
 {
     match room(shape, tree, &next, call, *sums) {
         Err(refusal) => Reply::No(refusal),
@@ -224,10 +224,10 @@ fn room(
     call: &Call,
     sums: Sums,
 ) -> Result<Sums, Refusal>
-    requires plain { IsPlain shape tree.now.items }
-    requires kept { AreCharges sums.pages sums.meta tree.now.items }
+    requires plain { IsPlainTree shape tree.now.items }
+    requires kept { ArePageCharges sums.pages sums.meta tree.now.items }
     requires changed { next.now.items ≡ (effect_of tree.now.items call.now).tree }
-    ensures sums { IfOk result (λ s. AreCharges s.pages s.meta next.now.items) }
+    ensures sums { IfOk result (λ s. ArePageCharges s.pages s.meta next.now.items) }
     ensures room { OnOk result (None ≡ space_refusal shape next.now.items) }
     ensures refusal { IfErr result (λ r. Some r ≡ space_refusal shape next.now.items) }
 {
@@ -269,7 +269,7 @@ fn reply_in(
 ) -> Reply
     requires bounded { HasFewBytes call.now }
     requires passes { None ≡ refusal_before tree.now.items call.now }
-    requires plain { IsPlain shape tree.now.items }
+    requires plain { IsPlainTree shape tree.now.items }
     requires empty { out.old ≡ [] }
     ensures reply { result ≡ numbered calls (effect_of tree.now.items call.now).reply }
     ensures bytes { out.new ≡ (effect_of tree.now.items call.now).bytes }

@@ -4,12 +4,12 @@ use Rattle.std.specs.Prelude.{Contains}
 use Rattle.nl_turns.specs.Seat.{by_seat, passed_by}
 use Rattle.nl_turns.specs.View.{Role, blank, idle, waits, enters, inside, leaves, hosts, spent, View}
 use Rattle.nl_turns.specs.Rule.{HostFits}
-use Rattle.nl_turns.specs.Steps.{after_pass, after_join, IsTold, is_inside, IsBetweenCalls, IsSettled, view_of, IsSeat}
+use Rattle.nl_turns.specs.Steps.{after_pass, after_join, NumbersAreGiven, is_inside, IsBetweenCalls, OneViewAtRest, view_of, IsSeat}
 use Rattle.nl_turns.specs.declared.entry.Entry.{Entry}
 use Rattle.nl_turns.proofs.Histories.{by_other}
 use Rattle.nl_turns.proofs.Views.{contains_more}
 
-between_calls : (vs : List View) → IsSettled vs → IsBetweenCalls (view_of vs).role
+between_calls : (vs : List View) → OneViewAtRest vs → IsBetweenCalls (view_of vs).role
 between_calls [] h = absurd h
 between_calls (v ∷ []) h = h
 between_calls (v ∷ w ∷ vs) h = absurd h
@@ -38,7 +38,7 @@ idle_of spent e h = absurd h
 pub at_turn : (vs : List View) (v : View) → vs ≡ v ∷ [] → is_inside (view_of vs).role ≡ true → (t : ℕ) × (v.role ≡ inside t)
 at_turn vs v e w = let t = inside_of (view_of vs).role w in (t.0, ap (λ us. (view_of us).role) (sym e) ∙ t.1)
 
-pub at_rest : (vs : List View) (v : View) → IsSettled vs → vs ≡ v ∷ [] → is_inside (view_of vs).role ≡ false → v.role ≡ idle
+pub at_rest : (vs : List View) (v : View) → OneViewAtRest vs → vs ≡ v ∷ [] → is_inside (view_of vs).role ≡ false → v.role ≡ idle
 at_rest vs v h e w = ap (λ us. (view_of us).role) (sym e) ∙ idle_of (view_of vs).role w (between_calls vs h)
 
 -- after a join the entries of seats that were taken back before are as they were
@@ -59,7 +59,7 @@ pass_keeps_seat v e places seat = record {
 }
 
 -- after a join: the other number differs from the seat's own, and the read of a word told the rest
-pub join_keeps_seat : (v w u : View) (places : ℕ) → u ≡ after_join v w → HostFits u u.role → IsTold u u.seen → IsSeat (v ∷ []) places → IsSeat (record u { role = idle } ∷ []) (places + 1)
+pub join_keeps_seat : (v w u : View) (places : ℕ) → u ≡ after_join v w → HostFits u u.role → NumbersAreGiven u u.seen → IsSeat (v ∷ []) places → IsSeat (record u { role = idle } ∷ []) (places + 1)
 join_keeps_seat v w u places is host told seat = record {
   settled = tt;
   places_are = ap (λ (n : ℕ). n + 1) seat.places_are ∙ sym (ap (λ (x : View). x.places) is);

@@ -43,5 +43,5 @@ pub record SeatState : Type 0 where
   pub joined : List ℕ
 
 -- no entry has a number that is still to be given
-abbrev pub NoneBeyond : ℕ → List Passed → Type 0
-NoneBeyond next history = (number : ℕ) → next ≤ number → by_seat number history ≡ []
+abbrev pub NoNumberBeyond : ℕ → List Passed → Type 0
+NoNumberBeyond next history = (number : ℕ) → next ≤ number → by_seat number history ≡ []

@@ -4,7 +4,7 @@ use mathlib.Core.List.{IsPrefix}
 use Rattle.atomic_table.specs.Table.{Step, Me, rest}
 use Rattle.atomic_table.specs.Seated.{TableId}
 use Rattle.nl_turns.specs.History.{Opening}
-use Rattle.nl_turns.specs.Seat.{Passed, passed_by, by_seat, longer, NoneBeyond, SeatState}
+use Rattle.nl_turns.specs.Seat.{Passed, passed_by, by_seat, longer, NoNumberBeyond, SeatState}
 use Rattle.nl_turns.specs.View.{Role, idle, waits, enters, inside, leaves, hosts, spent, View, no_opening}
 use Rattle.nl_turns.specs.Rule.{HostFits}
 use Rattle.nl_turns.specs.declared.entry.Entry.{Entry}
@@ -43,15 +43,15 @@ from_origin stands None opening history value = Unit {0}
 from_origin stands (Some origin) opening history value = stands origin opening history value
 
 -- the first seat knows of this history that no number in it is to come yet
-abbrev pub IsTold : View → List Passed → Type 0
-IsTold v all = v.number ≡ 0 → NoneBeyond v.next all
+abbrev pub NumbersAreGiven : View → List Passed → Type 0
+NumbersAreGiven v all = v.number ≡ 0 → NoNumberBeyond v.next all
 
 -- A seat comes to its turn by a history that begins with what it had seen, with no new entry of its own or of a seat that it took in.
 pub record ComesTo (v : View) (all : List Passed) : Type 0 where
   pub grows : IsPrefix v.seen all
   pub own : by_seat v.number all ≡ by_seat v.number v.seen
   pub joined : (j : ℕ) → Contains v.joined j → by_seat j all ≡ by_seat j v.seen
-  pub told : IsTold v all
+  pub told : NumbersAreGiven v all
 
 module _ {V : Type 0} where
   -- the opening is picked
@@ -83,7 +83,7 @@ module _ {V : Type 0} where
   -- the first seat is at rest again, and knows how the two histories belong together, and that it has few places
   abbrev pub settles : Step (Option V) → Me (Option V) View → ℕ → Me (Option V) View → Type 0
   settles st m n m' =
-      (m' ≡ (record m.0 { role = idle }, m.1)) × HostFits m.0 m.0.role × (m.0.number ≡ 0 → m.0.places + 1 ≤ 10) × IsTold m.0 m.0.seen
+      (m' ≡ (record m.0 { role = idle }, m.1)) × HostFits m.0 m.0.role × (m.0.number ≡ 0 → m.0.places + 1 ≤ 10) × NumbersAreGiven m.0 m.0.seen
 
 -- ---- the seat between calls
 
@@ -102,10 +102,10 @@ abbrev pub view_of : List View → View
 view_of [] = spent_view
 view_of (v ∷ vs) = v
 
-abbrev pub IsSettled : List View → Type 0
-IsSettled [] = ⊥
-IsSettled (v ∷ []) = IsBetweenCalls v.role
-IsSettled (v ∷ w ∷ vs) = ⊥
+abbrev pub OneViewAtRest : List View → Type 0
+OneViewAtRest [] = ⊥
+OneViewAtRest (v ∷ []) = IsBetweenCalls v.role
+OneViewAtRest (v ∷ w ∷ vs) = ⊥
 
 abbrev pub state_of : TableId → View → SeatState
 state_of lock v =
@@ -117,11 +117,11 @@ HasReached stands m m' = (t : ℕ) × TakesSlot stands t m m'
 
 -- the first seat knows that no entry it has seen has a number that is still to come
 abbrev pub KnowsNumbers : View → Type 0
-KnowsNumbers v = v.number ≡ 0 → (0 < v.next) × NoneBeyond v.next v.seen
+KnowsNumbers v = v.number ≡ 0 → (0 < v.next) × NoNumberBeyond v.next v.seen
 
 -- what is so of a seat between calls, of the views of its badge and its number of places
 pub record IsSeat (views : List View) (places : ℕ) : Type 0 where
-  pub settled : IsSettled views
+  pub settled : OneViewAtRest views
   pub places_are : places ≡ (view_of views).places
   pub numbers : KnowsNumbers (view_of views)
   pub apart : (n : ℕ) → Contains (view_of views).joined n → n ≢ (view_of views).number

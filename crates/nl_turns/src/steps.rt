@@ -3,7 +3,7 @@ ghost use Rattle.std.specs.Prelude.{◌≡◌, ℕ, List, ◌+◌, ◌<◌, ◌�
 ghost use Rattle.nl_turns.specs.Seat.{Passed, entries};
 ghost use Rattle.nl_turns.specs.View.{blank, idle, enters, inside, leaves, hosts};
 ghost use Rattle.nl_turns.specs.Rule.{blank_view, HostFits, by_entries};
-ghost use Rattle.nl_turns.specs.Steps.{after_pass, IsTold, HasReached};
+ghost use Rattle.nl_turns.specs.Steps.{after_pass, NumbersAreGiven, HasReached};
 
 use crate::entry::Entry;
 use crate::kept::{Kept, Opens};
@@ -117,7 +117,7 @@ pub(crate) fn settle<V: Kept>(top: &Top<V>, place: &mut Place<V>)
         × (place.new.me ≡ (record place.old.me.0 { role = idle }, place.old.me.1)) }
     ensures host { HostFits place.old.me.0 place.old.me.0.role }
     ensures few { place.old.me.0.number ≡ 0 → place.old.me.0.places + 1 ≤ 10 }
-    ensures told { IsTold place.old.me.0 place.old.me.0.seen }
+    ensures told { NumbersAreGiven place.old.me.0 place.old.me.0.seen }
 {
     top.load::<Settle>(place, 0);
 }

@@ -1,7 +1,7 @@
 //! The ticket lock: a turn is taken, the value is borrowed for it, and the lock is closed at the end.
 ghost use Rattle.std.specs.Prelude.{◌≡◌, ℕ, ◌+◌, ◌-◌, ◌<◌, ◌≤◌, ◌∷◌, ◌++◌, [], true, false, Contains, IfOk, IfErr, IfSome, IfNone};
 ghost use mathlib.Core.List.{IsPrefix};
-ghost use Rattle.nl_turns.specs.Seat.{entries, by_seat, passed_by, longer, NoneBeyond, SeatState};
+ghost use Rattle.nl_turns.specs.Seat.{entries, by_seat, passed_by, longer, NoNumberBeyond, SeatState};
 
 use crate::entry::Entry;
 use crate::kept::{Kept, Opens};
@@ -71,7 +71,7 @@ impl<V: Kept> Turns<V> {
         ensures grows { IsPrefix seat.old.seen seat.new.seen }
         ensures own { by_seat seat.old.number seat.new.seen ≡ by_seat seat.old.number seat.old.seen }
         ensures joined { (n : ℕ) → Contains seat.old.joined n → by_seat n seat.new.seen ≡ by_seat n seat.old.seen }
-        ensures numbers { seat.old.number ≡ 0 → NoneBeyond seat.old.next seat.new.seen }
+        ensures numbers { seat.old.number ≡ 0 → NoNumberBeyond seat.old.next seat.new.seen }
         ensures stands { V.stands self.now.origin seat.old.opening (entries seat.new.seen) result.value }
     {
         let top = &self.table.shared;
@@ -90,7 +90,7 @@ impl<V: Kept> Turns<V> {
         requires stands { V.stands self.now.origin seat.old.opening (entries seat.old.seen ++ entry ∷ []) turn.value }
         ensures seat { seat.new ≡ record seat.old { seen = seat.old.seen ++ passed_by seat.old.number entry ∷ []; has_turn = false } }
         ensures joined { (n : ℕ) → Contains seat.old.joined n → by_seat n seat.new.seen ≡ by_seat n seat.old.seen }
-        ensures numbers { seat.old.number ≡ 0 → NoneBeyond seat.old.next seat.new.seen }
+        ensures numbers { seat.old.number ≡ 0 → NoNumberBeyond seat.old.next seat.new.seen }
     {
         let Turn { value } = turn;
         let top = &self.table.shared;
@@ -111,7 +111,7 @@ impl<V: Kept> Turns<V> {
         ensures seat { IfSome result (λ r. (0 < seat.old.places)
             × (seat.new ≡ record seat.old { places = seat.old.places - 1; next = seat.old.next + 1 })) }
         ensures given { IfSome result (λ r. r ≡ record seat.old { number = seat.old.next; places = 0; next = 0; joined = [] }) }
-        ensures numbers { IfSome result (λ r. (0 < r.number) × NoneBeyond r.number r.seen) }
+        ensures numbers { IfSome result (λ r. (0 < r.number) × NoNumberBeyond r.number r.seen) }
     {
         if seat.places == 0 {
             return None;
@@ -139,7 +139,7 @@ impl<V: Kept> Turns<V> {
         ensures own { by_seat 0 seat.new.seen ≡ by_seat 0 seat.old.seen }
         ensures theirs { by_seat other.number seat.new.seen ≡ by_seat other.number other.seen }
         ensures joined { (n : ℕ) → Contains seat.old.joined n → by_seat n seat.new.seen ≡ by_seat n seat.old.seen }
-        ensures numbers { NoneBeyond seat.new.next seat.new.seen }
+        ensures numbers { NoNumberBeyond seat.new.next seat.new.seen }
     {
         let TurnSeat { badge, places: _ } = other;
         let top = &self.table.shared;

@@ -4,7 +4,7 @@ use Rattle.std.specs.Prelude.{IfSome, is_none}
 use Rattle.std.proofs.lemmas.Bool.{cases_eq, cases_lt}
 use Rattle.nl_field.specs.CrashStates.{saturated, top}
 use Rattle.nl_field.specs.Members as members
-use Rattle.nl_tree.specs.Causes.{FaultRose, FaultWithin, HasCause, IsSumSince, MayBeWorn, NeverFall, eio_of, erofs_of, fault_in, fault_sum, is_changing, max_stamp}
+use Rattle.nl_tree.specs.Causes.{FaultRose, FaultWithin, HasCause, IsSumSince, MayBeExhausted, NeverFall, eio_of, erofs_of, fault_in, fault_sum, is_changing, max_stamp}
 use Rattle.nl_tree.specs.declared.call.Call.{Call}
 use Rattle.nl_tree.specs.declared.call.Call.TheVariants.{Mkdir, Rmdir, Create, Unlink, Rename, Write, Fill, Read, Truncate, Stat, List as ListCall, Sync, Clean}
 use Rattle.nl_tree.specs.declared.call.Line.{Line}
@@ -16,7 +16,7 @@ use Rattle.nl_tree.proofs.FaultProofs.{fault_laws}
 use Rattle.nl_flight.specs.Flight.{InFlight, begun, of_worker}
 use Rattle.nl_iface.specs.Device.{IsVolumeShape}
 use Rattle.nl_iface.specs.declared.counts.Counts.{Ghosts}
-use Rattle.nl_core.specs.Goes.{Goes}
+use Rattle.nl_core.specs.Goes.{PreservesVolume}
 use Rattle.nl_core.specs.declared.state.Core.{Core}
 use Rattle.nl_core.proofs.Onward.{goes_then}
 use Rattle.nl_calls_steps.proofs.Stepping.{steps_run}
@@ -26,10 +26,10 @@ use Rattle.nl_turns.specs.History.{Opening, call_at, fault_of, is_effect, is_syn
 use Rattle.nl_turns.specs.Served.{IsLineOf, effect_entry, fault_mark, sync_mark}
 use Rattle.nl_turns.specs.declared.entry.Entry.{Entry}
 use Rattle.nl_turns.specs.declared.entry.SyncMark.TheVariants.{NoSync, At}
-use Rattle.nl_calls.specs.Answering.{HasEffect, HasEffectOf, Syncs, is_sync_call, is_synced}
+use Rattle.nl_calls.specs.Answering.{MakesEffect, HasEffectOf, Syncs, is_sync_call, is_synced}
 use Rattle.nl_volume.specs.Effects.{AnswersLine}
 use Rattle.nl_volume_stage.specs.Serving.{counts_of, refusing_of, some_number, staged_fault}
-use Rattle.nl_volume_stage.specs.Standing.{FlightStands, IsInFlight, MarkHasCause, NumbersDiffer, Serves, StandsFor}
+use Rattle.nl_volume_stage.specs.Standing.{FlightIsOfLines, IsInFlight, FaultReplyHasCause, NumbersDiffer, Serves, RepresentsHistory}
 use Rattle.nl_volume_stage.specs.Turns.{AreCounts}
 use Rattle.nl_volume_stage.proofs.Causes.{still_cause}
 use Rattle.nl_volume_stage.proofs.Due.{IsRefused, due_cases, marked, within_since}
@@ -42,7 +42,7 @@ use Rattle.nl_volume_stage.proofs.Standing.{calls_serve}
 -- ---- what an effect keeps
 
 module _ {D : Type 0} (g : Ghosts D) (call : Call) (u w : Core D) where
-  effect_keeps : (fault : Option FaultReply) → HasEffect g call fault u w → KeepsPages g u w
+  effect_keeps : (fault : Option FaultReply) → MakesEffect g call fault u w → KeepsPages g u w
   effect_keeps fault x =
       let m = x.steps.reads.medium in
       let goes = x.goes in
@@ -59,7 +59,7 @@ module _ {D : Type 0} (g : Ghosts D) (call : Call) (u w : Core D) where
             );
       }
 
-  syncs_goes : (upto moment : ℕ) (x : Syncs g upto moment u w) → Goes g (x.before + x.most) u w
+  syncs_goes : (upto moment : ℕ) (x : Syncs g upto moment u w) → PreservesVolume g (x.before + x.most) u w
   syncs_goes upto moment x = goes_then g u x.between w x.before x.most x.goes x.committing
 
   pub effect_of_keeps : (reply : Reply) → HasEffectOf g call u w reply → KeepsPages g u w
@@ -74,7 +74,7 @@ module _ {D : Type 0} (g : Ghosts D) (call : Call) (u w : Core D) where
   effect_of_keeps (Fault fault) x = effect_keeps (Some fault) x
 
   -- a volume that is read-only stays so
-  effect_stopped : (fault : Option FaultReply) → HasEffect g call fault u w → (u.stopped ≡ 0 → ⊥) → w.stopped ≡ u.stopped
+  effect_stopped : (fault : Option FaultReply) → MakesEffect g call fault u w → (u.stopped ≡ 0 → ⊥) → w.stopped ≡ u.stopped
   effect_stopped fault x off = ap (λ (c : Core D). c.stopped) x.steps.others ∙ x.goes.stops.stands off
 
   pub stays_stopped : (reply : Reply) → HasEffectOf g call u w reply → (u.stopped ≡ 0 → ⊥) → w.stopped ≡ u.stopped
@@ -134,7 +134,7 @@ call_found o worker line call of = let f = of.found in ap (λ (x : Option Line).
 
 -- ---- the line
 
-module _ {D : Type 0} (g : Ghosts D) (origin : Core D) (o : Opening) (h : List Entry) (u w : Core D) (done worker line : ℕ) (call : Call) (reply : Reply) (out : List ℕ) (files : ℕ) (s : StandsFor g origin o h u done) (of : IsLineOf o worker line call)
+module _ {D : Type 0} (g : Ghosts D) (origin : Core D) (o : Opening) (h : List Entry) (u w : Core D) (done worker line : ℕ) (call : Call) (reply : Reply) (out : List ℕ) (files : ℕ) (s : RepresentsHistory g origin o h u done) (of : IsLineOf o worker line call)
     (x : AnswersLine g worker line call u w reply out files) (most : AreCounts g w) (volume : IsVolumeShape (g.shape w.device)) where
   abbrev e : Entry
   e = effect_entry line reply
@@ -161,7 +161,7 @@ module _ {D : Type 0} (g : Ghosts D) (origin : Core D) (o : Opening) (h : List E
   sum_kept : (worker : ℕ) → (of_worker u.flight worker).fault ≢ 0 → IsSumSince (opening_counts o) (counts_of g u.device) (of_worker u.flight worker).fault
   sum_kept worker some = ⊎_elim (λ none. absurd (some none.1)) (λ (is : IsInFlight g o u.device worker (of_worker u.flight worker)). is.fault some) (s.flight worker)
 
-  worn_since : 2 ^ 62 ≤ g.next_stamp u.device → (g.clock u.device < top) ⊎ (top ≤ g.clock u.device) → (g.write_faults u.device < top) ⊎ (top ≤ g.write_faults u.device) → MayBeWorn (opening_counts o) (counts_of g u.device) o.next_stamp
+  worn_since : 2 ^ 62 ≤ g.next_stamp u.device → (g.clock u.device < top) ⊎ (top ≤ g.clock u.device) → (g.write_faults u.device < top) ⊎ (top ≤ g.write_faults u.device) → MayBeExhausted (opening_counts o) (counts_of g u.device) o.next_stamp
   worn_since high (inl low) (inl less) = let n = s.serves.next_stamp low less in inl (omega (arith, high, n))
   worn_since high (inr full) b = let up = later.clock in let end = most.clock in inr (inl (omega (arith, full, up, end)))
   worn_since high (inl low) (inr full) = let up = later.write_faults in let end = most.write_faults in inr (inr (omega (arith, full, up, end)))
@@ -195,7 +195,7 @@ module _ {D : Type 0} (g : Ghosts D) (origin : Core D) (o : Opening) (h : List E
 
   -- ---- what is in flight
 
-  flight_then : FlightStands g o w.device w.flight
+  flight_then : FlightIsOfLines g o w.device w.flight
   flight_then k = by (cases_eq k worker)
     where
       by : (k ≡ worker) ⊎ (k ≢ worker) → (((of_worker w.flight k).line ≡ 0) × ((of_worker w.flight k).fault ≡ 0)) ⊎ IsInFlight g o w.device k (of_worker w.flight k)
@@ -216,7 +216,7 @@ module _ {D : Type 0} (g : Ghosts D) (origin : Core D) (o : Opening) (h : List E
     pub past : (y : Entry) → members.Has h y → eio_of (fault_of y.fault) ≡ Some n → n ≡ top
     pub kept : (k : ℕ) → k ≢ worker → (of_worker u.flight k).fault ≡ n → n ≡ top
 
-  past_mark : (y : Entry) (r : Option FaultReply) (n : ℕ) → IfSome r (MarkHasCause g.tells o (counts_of g u.device) y) → eio_of r ≡ Some n → IsSumSince (opening_counts o) (counts_of g u.device) n
+  past_mark : (y : Entry) (r : Option FaultReply) (n : ℕ) → IfSome r (FaultReplyHasCause g.tells o (counts_of g u.device) y) → eio_of r ≡ Some n → IsSumSince (opening_counts o) (counts_of g u.device) n
   past_mark y None n is at = absurd (cc at)
   past_mark y (Some (Eio k)) n is at = let eq : k ≡ n = cc at in subst (IsSumSince (opening_counts o) (counts_of g u.device)) eq is.2
   past_mark y (Some (Erofs k)) n is at = absurd (cc at)
@@ -312,7 +312,7 @@ module _ {D : Type 0} (g : Ghosts D) (origin : Core D) (o : Opening) (h : List E
         (has_or_last h e y has);
   }
     where
-      no_zero : (y : Entry) (r : Option FaultReply) (n : ℕ) → IfSome r (MarkHasCause g.tells o (counts_of g u.device) y) → eio_of r ≡ Some n → n ≡ 0 → ⊥
+      no_zero : (y : Entry) (r : Option FaultReply) (n : ℕ) → IfSome r (FaultReplyHasCause g.tells o (counts_of g u.device) y) → eio_of r ≡ Some n → n ≡ 0 → ⊥
       no_zero y r n is at none = let sum = past_mark y r n is at in ⊎_elim (λ low. omega (arith, low, none)) (λ high. omega (arith, high, none)) sum.0
 
   -- ---- it serves
@@ -323,7 +323,7 @@ module _ {D : Type 0} (g : Ghosts D) (origin : Core D) (o : Opening) (h : List E
   at_line : call_at o.lines line ≡ Some call
   at_line = call_found o worker line call of
 
-  plain_serves : (fault : Option FaultReply) → fault ≡ fault_of (fault_mark reply) → is_synced reply ≡ false → sync_mark reply ≡ NoSync → HasEffect g call fault u w → Serves g origin o (h ++ e ∷ []) (counted w) (saturated (done + 1))
+  plain_serves : (fault : Option FaultReply) → fault ≡ fault_of (fault_mark reply) → is_synced reply ≡ false → sync_mark reply ≡ NoSync → MakesEffect g call fault u w → Serves g origin o (h ++ e ∷ []) (counted w) (saturated (done + 1))
   plain_serves fault is plain none y =
       let m = y.steps.reads.medium in
       let clock = m.clock in
@@ -360,5 +360,5 @@ module _ {D : Type 0} (g : Ghosts D) (origin : Core D) (o : Opening) (h : List E
   line_serves (No refusal) is y = plain_serves None (ap (λ r. fault_of (fault_mark r)) (sym is)) (ap is_synced is) (ap sync_mark is) y
   line_serves (Fault fault) is y = plain_serves (Some fault) (ap (λ r. fault_of (fault_mark r)) (sym is)) (ap is_synced is) (ap sync_mark is) y
 
-  pub line_stands : StandsFor g origin o (h ++ e ∷ []) (counted w) (saturated (done + 1))
+  pub line_stands : RepresentsHistory g origin o (h ++ e ∷ []) (counted w) (saturated (done + 1))
   line_stands = record { serves = line_serves reply refl x.effect; flight = flight_then; numbers = numbers_then }

@@ -11,14 +11,14 @@ use Rattle.nl_meta.specs.Consistent.{PageOfStamp}
 use Rattle.nl_spec_image.specs.Crash.{Run}
 use Rattle.nl_spec_commits.specs.Trees.{all_at}
 use Rattle.nl_core.specs.Core.{IsCore}
-use Rattle.nl_core.specs.Trees.{CoreStands}
+use Rattle.nl_core.specs.Trees.{CoreRepresents}
 use Rattle.nl_core.specs.declared.state.Core.{Core}
-use Rattle.nl_core_open.specs.Opening.{IsOpened}
-use Rattle.nl_spec_crashes.specs.Along.{GoesAlong}
+use Rattle.nl_core_open.specs.Opening.{IsOpenedCore}
+use Rattle.nl_spec_crashes.specs.Along.{FollowsRun}
 use Rattle.nl_spec_crashes.proofs.Along.{opening_goes_along}
 use Rattle.nl_turns.specs.History.{Opening, marked_calls, syncs_of}
 use Rattle.nl_volume.specs.Opening.{opening_of}
-use Rattle.nl_volume_stage.specs.Standing.{EachIsLine, StandsFor, run_of}
+use Rattle.nl_volume_stage.specs.Standing.{EachIsLine, RepresentsHistory, run_of}
 
 no_calls : (o : Opening) → marked_calls o [] ≡ []
 unfolding marked_calls
@@ -36,8 +36,8 @@ all_begun (suc n) (suc worker) = all_begun n worker
 none_flies : (worker : ℕ) → of_worker nothing worker ≡ begun 0
 none_flies worker = all_begun 8 worker
 
-module _ {D : Type 0} (g : Ghosts D) (v : Core D) (tree : Tree) (lines : List Line) (core : IsCore g v) (opened : IsOpened g v) (few : v.count ≤ top) (are : EachIsLine lines) (writes : g.write_faults v.device ≤ top)
-    (stands : g.tells → (page_of_stamp : ℕ → Option PageOfStamp) × CoreStands g v page_of_stamp (all_at v.count tree)) where
+module _ {D : Type 0} (g : Ghosts D) (v : Core D) (tree : Tree) (lines : List Line) (core : IsCore g v) (opened : IsOpenedCore g v) (few : v.count ≤ top) (are : EachIsLine lines) (writes : g.write_faults v.device ≤ top)
+    (stands : g.tells → (page_of_stamp : ℕ → Option PageOfStamp) × CoreRepresents g v page_of_stamp (all_at v.count tree)) where
   abbrev pub o : Opening
   o = opening_of g v tree lines
 
@@ -52,14 +52,14 @@ module _ {D : Type 0} (g : Ghosts D) (v : Core D) (tree : Tree) (lines : List Li
       by true e = absurd (off (opened.stopped ∙ ap (λ b. cond b 0 top) e))
       by false e = (grind (arith, e, writes), opened.stopped ∙ ap (λ b. cond b 0 top) e)
 
-  pub opening_stands : StandsFor g v o [] v 0
+  pub opening_stands : RepresentsHistory g v o [] v 0
   opening_stands = record {
     serves = record {
       few = few;
       lines = are;
       core = core;
       known = λ e none. absurd none;
-      along = subst (λ (r : Run). GoesAlong g v (g.clock v.device) r v) (sym same_run) (opening_goes_along g v tree stands few);
+      along = subst (λ (r : Run). FollowsRun g v (g.clock v.device) r v) (sym same_run) (opening_goes_along g v tree stands few);
       effects = refl;
       since = record { clock = omega arith; read_faults = omega arith; write_faults = omega arith };
       next_stamp = λ low less. omega arith;

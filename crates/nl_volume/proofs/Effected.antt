@@ -19,10 +19,10 @@ use Rattle.nl_spec_crashes.specs.Effects.{counted}
 use Rattle.nl_turns.specs.History.{Opening, tree_after}
 use Rattle.nl_turns.specs.Served.{IsLineOf, StaysReadOnly, effect_entry, ordinal_due, outcome_due, place_due}
 use Rattle.nl_turns.specs.declared.entry.Entry.{Entry}
-use Rattle.nl_calls.specs.Answering.{HasEffect, HasEffectOf}
+use Rattle.nl_calls.specs.Answering.{MakesEffect, HasEffectOf}
 use Rattle.nl_volume.specs.Effects.{AnswersLine}
 use Rattle.nl_volume_stage.specs.Serving.{counts_of, refusing_of, some_number, to_stage_of}
-use Rattle.nl_volume_stage.specs.Standing.{StandsFor}
+use Rattle.nl_volume_stage.specs.Standing.{RepresentsHistory}
 use Rattle.nl_volume_stage.specs.Turns.{AreCounts}
 use Rattle.nl_volume.proofs.Answering.{line_stands}
 use Rattle.nl_volume_stage.proofs.Due.{marked}
@@ -32,7 +32,7 @@ use Rattle.nl_volume_stage.proofs.Serving.{staged_same, stays_read_only, to_stag
 -- ---- a volume becomes read-only only where a write failed
 
 module _ {D : Type 0} (g : Ghosts D) (call : Call) (u w : Core D) (core : IsCore g u) where
-  effect_read_only : (fault : Option FaultReply) → HasEffect g call fault u w → StaysReadOnly (counts_of g u.device) (counts_of g w.device) (some_number u.stopped) (some_number w.stopped)
+  effect_read_only : (fault : Option FaultReply) → MakesEffect g call fault u w → StaysReadOnly (counts_of g u.device) (counts_of g w.device) (some_number u.stopped) (some_number w.stopped)
   effect_read_only fault x =
       let m = x.steps.reads.medium in
       let k = stays_read_only g x.most u x.between core x.goes in
@@ -67,8 +67,8 @@ module _ {D : Type 0} (g : Ghosts D) (u w : Core D) (worker line : ℕ) (call : 
   pub line_staged : (k l : ℕ) → k ≢ worker → (refusing_of g w k l).staged ≡ (refusing_of g u k l).staged
   line_staged k l far = staged_same u.flight w.flight k l (x.ended.others k far)
 
-  module _ (origin : Core D) (o : Opening) (h : List Entry) (done : ℕ) (s : StandsFor g origin o h u done) (of : IsLineOf o worker line call) (most : AreCounts g w) (volume : IsVolumeShape (g.shape w.device)) where
-    then_stands : StandsFor g origin o (h ++ effect_entry line reply ∷ []) (counted w) (saturated (done + 1))
+  module _ (origin : Core D) (o : Opening) (h : List Entry) (done : ℕ) (s : RepresentsHistory g origin o h u done) (of : IsLineOf o worker line call) (most : AreCounts g w) (volume : IsVolumeShape (g.shape w.device)) where
+    then_stands : RepresentsHistory g origin o (h ++ effect_entry line reply ∷ []) (counted w) (saturated (done + 1))
     then_stands = line_stands g origin o h u w done worker line call reply out files s of x most volume
 
     pub line_place : saturated (w.count + 1) ≡ place_due o h line reply

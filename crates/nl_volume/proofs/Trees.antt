@@ -4,7 +4,7 @@ use Rattle.nl_field.specs.Page.{Image, is_image}
 use Rattle.nl_field.specs.declared.place.Place.{Place}
 use Rattle.nl_tree.specs.Tree.{Tree, empty_tree}
 use Rattle.nl_meta.specs.Walk.{walk}
-use Rattle.nl_spec_image.specs.Stands.{SoundAs}
+use Rattle.nl_spec_image.specs.Stands.{ConsistentAs}
 use Rattle.nl_spec_image.proofs.SoundProofs.{stands_for_one, walk_is_soundness}
 
 tree_from : (image : Image) (b : Bool) → is_image image ≡ b → (x : Option Place) → walk image ≡ x → Tree
@@ -15,9 +15,9 @@ tree_from image false torn x at = empty_tree
 pub tree_of : Image → Tree
 tree_of image = tree_from image (is_image image) refl (walk image) refl
 
-pub sound_as_it : (image : Image) (count : ℕ) (tree : Tree) → SoundAs image count tree → SoundAs image count (tree_of image)
+pub sound_as_it : (image : Image) (count : ℕ) (tree : Tree) → ConsistentAs image count tree → ConsistentAs image count (tree_of image)
 unfolding tree_from tree_of is_image
-sound_as_it image count tree s = subst (SoundAs image count) (sym (same (is_image image) refl (walk image) refl)) s
+sound_as_it image count tree s = subst (ConsistentAs image count) (sym (same (is_image image) refl (walk image) refl)) s
   where
     same : (b : Bool) (e : is_image image ≡ b) (x : Option Place) (f : walk image ≡ x) → tree_from image b e x f ≡ tree
     same true whole None none = let t = (walk_is_soundness image whole).0 none in (stands_for_one image t.0 count t.1 tree t.2.stands s.stands).1

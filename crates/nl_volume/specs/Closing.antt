@@ -5,7 +5,7 @@ use Rattle.nl_device.specs.Medium.{medium_of}
 use Rattle.nl_device.specs.declared.device.Device.{Device}
 use Rattle.nl_iface.specs.declared.counts.Counts.{Ghosts}
 use Rattle.nl_core.specs.Calls.{CommitsAll}
-use Rattle.nl_core.specs.Goes.{Goes}
+use Rattle.nl_core.specs.Goes.{PreservesVolume}
 use Rattle.nl_core.specs.declared.state.Core.{Core}
 use Rattle.nl_turns.specs.History.{Opening, effects}
 use Rattle.nl_turns.specs.declared.entry.Entry.{Entry}
@@ -16,8 +16,8 @@ abbrev pub counts_on : {M : Type 0} → (clock read_faults write_faults : M → 
 counts_on clock read_faults write_faults m = record { clock = clock m; read_faults = read_faults m; write_faults = write_faults m }
 
 -- A call of the core led to this one, which had the medium last.
-pub record EndsAs {M : Type 0} (g : Ghosts (Device M)) (old last : Core (Device M)) (media : M) : Type 0 where
-  pub goes : Goes g 512 old last
+pub record EndsWithMedium {M : Type 0} (g : Ghosts (Device M)) (old last : Core (Device M)) (media : M) : Type 0 where
+  pub goes : PreservesVolume g 512 old last
   pub medium : media ≡ medium_of last.device
 
 -- The medium tells its contents, and clock, count of calls and numbers of transactions have not ended: since the opening, when this was the
@@ -29,7 +29,7 @@ pub record IsYoungAtEnd (tells : Type 0) (opening : Opening) (history : List Ent
   pub numbers : begun + clock + 1 < 2 ^ 63 + opening.clock
 
 -- The volume could be written to, and nothing is said to have failed or to be lost.
-pub record IsCommitted {M : Type 0} (old : Core (Device M)) (closed : Closed M) : Type 0 where
+pub record ClosesCommitted {M : Type 0} (old : Core (Device M)) (closed : Closed M) : Type 0 where
   pub writes : old.stopped ≡ 0
   pub unworn : closed.worn ≡ false
   pub no_fault : closed.fault ≡ false
@@ -37,4 +37,4 @@ pub record IsCommitted {M : Type 0} (old : Core (Device M)) (closed : Closed M) 
 
 -- A last commit made all calls durable.
 abbrev pub CommitsLast : {M : Type 0} → Ghosts (Device M) → Core (Device M) → M → Type 0
-CommitsLast {M} g old media = (last : Core (Device M)) × EndsAs g old last media × (number : ℕ) × CommitsAll g old last number
+CommitsLast {M} g old media = (last : Core (Device M)) × EndsWithMedium g old last media × (number : ℕ) × CommitsAll g old last number

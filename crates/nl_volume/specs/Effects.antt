@@ -7,7 +7,7 @@ use Rattle.nl_iface.specs.declared.counts.Counts.{Ghosts}
 use Rattle.nl_iface.specs.declared.moving_pages.MovingPages.{Ghosts as Moving}
 use Rattle.nl_core.specs.Core.{IsCore}
 use Rattle.nl_core.specs.declared.state.Core.{Core}
-use Rattle.nl_calls.specs.Answering.{AnswersOn, Cleans, EndsLine, HasEffectOf, is_sync_call, is_synced, pages_of_files}
+use Rattle.nl_calls.specs.Answering.{AnswersOn, RunsReclaimPass, EndsLine, HasEffectOf, is_sync_call, is_synced, pages_of_files}
 use Rattle.nl_volume_stage.specs.Serving.{counts_of, refusing_of}
 use Rattle.nl_spec_crashes.specs.Effects.{counted}
 
@@ -24,4 +24,4 @@ pub record AnswersLine {D : Type 0} (g : Ghosts D) (worker line : ℕ) (call : C
 
 -- A round of reclaiming was done, and then the call was counted.
 abbrev pub CleansAndCounts : {D : Type 0} → Ghosts D → Moving D → Core D → Core D → Type 0
-CleansAndCounts {D} g m old new = (between : Core D) × Cleans g m old between × (new ≡ counted between)
+CleansAndCounts {D} g m old new = (between : Core D) × RunsReclaimPass g m old between × (new ≡ counted between)

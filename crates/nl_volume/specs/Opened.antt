@@ -11,13 +11,13 @@ use Rattle.nl_meta.specs.Committed.{next_number}
 use Rattle.nl_meta.specs.Walk.{walk}
 use Rattle.nl_core.specs.Core.{begun_of}
 use Rattle.nl_core.specs.declared.state.Core.{Core}
-use Rattle.nl_spec_image.specs.Stands.{Sound, SoundAs}
+use Rattle.nl_spec_image.specs.Stands.{IsConsistentImage, ConsistentAs}
 use Rattle.nl_volume.specs.declared.opened.NotOpened.{NotOpened}
 use Rattle.nl_volume.specs.declared.opened.NotOpened.TheVariants.{Blank, Damaged, Fault, Memory}
 
 -- The volume opened as what the image is: with this tree, as which it is sound, and the numbers that it tells.
-pub record OpensAs {D : Type 0} (g : Ghosts D) (image : Image) (v : Core D) (tree : Tree) : Type 0 where
-  pub sound : SoundAs image v.count tree
+pub record VolumeOpensAs {D : Type 0} (g : Ghosts D) (image : Image) (v : Core D) (tree : Tree) : Type 0 where
+  pub sound : ConsistentAs image v.count tree
   pub shape : g.shape v.device ≡ shape_of_image image
   pub next_stamp : g.next_stamp v.device ≡ next_stamp_of image
 
@@ -25,7 +25,7 @@ pub record OpensAs {D : Type 0} (g : Ghosts D) (image : Image) (v : Core D) (tre
 -- the image tells.
 pub record OpensOn {D : Type 0} (g : Ghosts D) (image : Image) (v : Core D) : Type 0 where
   pub tree : Tree
-  pub opens : g.tells → OpensAs g image v tree
+  pub opens : g.tells → VolumeOpensAs g image v tree
   pub number : g.tells → begun_of v + 1 ≡ next_number (shape_of_image image) (virtual_bytes image)
 
 -- the medium that came back
@@ -39,6 +39,6 @@ medium_in (Memory m) = m
 abbrev pub IsReason : {M : Type 0} → Type 0 → (M → Image) → (M → ℕ) → M → NotOpened M → Type 0
 IsReason tells contents read_faults before (Blank m) = tells → readable_pages (contents before) ≡ []
 IsReason tells contents read_faults before (Damaged m place) =
-    tells → (readable_pages (contents before) ≢ []) × (walk (contents before) ≡ Some place) × (Sound (contents before) → ⊥)
+    tells → (readable_pages (contents before) ≢ []) × (walk (contents before) ≡ Some place) × (IsConsistentImage (contents before) → ⊥)
 IsReason tells contents read_faults before (Fault m) = Rose (read_faults before) (read_faults m)
 IsReason tells contents read_faults before (Memory m) = ⊤

@@ -35,12 +35,12 @@ IfOpened (Damaged m place) P = ⊤
 IfOpened (Fault m) P = ⊤
 IfOpened (Memory m) P = ⊤
 
-abbrev pub IsFault : {M : Type 0} → Opened M → Type 0
-IsFault (Ready v) = ⊥
-IsFault (Blank m) = ⊥
-IsFault (Damaged m place) = ⊥
-IsFault (Fault m) = ⊤
-IsFault (Memory m) = ⊥
+abbrev pub IsVolumeOpenFault : {M : Type 0} → Opened M → Type 0
+IsVolumeOpenFault (Ready v) = ⊥
+IsVolumeOpenFault (Blank m) = ⊥
+IsVolumeOpenFault (Damaged m place) = ⊥
+IsVolumeOpenFault (Fault m) = ⊤
+IsVolumeOpenFault (Memory m) = ⊥
 
 -- the medium of an answer
 abbrev pub opened_medium : {M : Type 0} → Opened M → M

@@ -4,7 +4,7 @@ use Rattle.nl_tree.specs.Charges.{data_charge, meta_charge, node_charge}
 use Rattle.nl_tree.specs.Tree.{Tree}
 use Rattle.nl_iface.specs.declared.counts.Counts.{Ghosts}
 use Rattle.nl_meta.specs.Consistent.{PageOfStamp}
-use Rattle.nl_core.specs.Trees.{CoreRuns}
+use Rattle.nl_core.specs.Trees.{CoreRepresentsTree}
 use Rattle.nl_core.specs.declared.state.Core.{Core}
 use Rattle.nl_volume.specs.declared.report.VolumeReport.{VolumeReport}
 
@@ -15,5 +15,5 @@ pub record HasCharges (report : VolumeReport) (tree : Tree) : Type 0 where
   pub meta : report.meta ≡ meta_charge tree
 
 -- The report tells the charges of each tree as which the core runs.
-abbrev pub TellsCharges : {D : Type 0} → Ghosts D → Core D → VolumeReport → Type 0
-TellsCharges g v report = (page_of_stamp : ℕ → Option PageOfStamp) (tree : Tree) → CoreRuns g v page_of_stamp tree → HasCharges report tree
+abbrev pub ReportsCharges : {D : Type 0} → Ghosts D → Core D → VolumeReport → Type 0
+ReportsCharges g v report = (page_of_stamp : ℕ → Option PageOfStamp) (tree : Tree) → CoreRepresentsTree g v page_of_stamp tree → HasCharges report tree

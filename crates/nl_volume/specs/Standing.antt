@@ -5,9 +5,9 @@ use Rattle.nl_iface.specs.declared.counts.Counts.{Ghosts}
 use Rattle.nl_calls.specs.Answering.{pages_of_files}
 use Rattle.nl_turns.specs.History.{Opening}
 use Rattle.nl_turns.specs.declared.entry.Entry.{Entry}
-use Rattle.nl_volume_stage.specs.Standing.{StandsFor}
+use Rattle.nl_volume_stage.specs.Standing.{RepresentsHistory}
 use Rattle.nl_volume.specs.declared.volume.Volume.{Volume}
 
 -- The core of a volume stands for that, since it was the one of the origin, and the volume knows how many pages its files have.
-abbrev pub VolumeStands : {M : Type 0} → Ghosts (Device M) → Volume M → Opening → List Entry → Volume M → Type 0
-VolumeStands g origin opening history v = StandsFor g origin.core opening history v.core v.done × (v.files ≡ pages_of_files g v.core)
+abbrev pub VolumeRepresents : {M : Type 0} → Ghosts (Device M) → Volume M → Opening → List Entry → Volume M → Type 0
+VolumeRepresents g origin opening history v = RepresentsHistory g origin.core opening history v.core v.done × (v.files ≡ pages_of_files g v.core)

@@ -2,14 +2,14 @@ ghost use Rattle.std.specs.Prelude.{◌≡◌, ◌≢◌, ◌⊎◌, ◌↔◌, 
 ghost use Rattle.nl_core.specs.Core.{begun_of};
 ghost use Rattle.nl_device.specs.Medium.{medium_of};
 ghost use Rattle.nl_field.specs.CrashStates.{Rose};
-ghost use Rattle.nl_spec_image.specs.Crash.{StopsSafely};
-ghost use Rattle.nl_spec_image.specs.Stands.{SoundAs};
+ghost use Rattle.nl_spec_image.specs.Crash.{CrashesSafely};
+ghost use Rattle.nl_spec_image.specs.Stands.{ConsistentAs};
 ghost use Rattle.nl_tree.specs.Causes.{FaultRose, NeverFall};
 ghost use Rattle.nl_turns.specs.History.{Opening, effects, opening_counts, tree_after};
 ghost use Rattle.nl_turns.specs.Served.{StandsForSome};
 ghost use Rattle.nl_turns.specs.declared.entry.Entry.{Entry as TurnEntry};
 ghost use Rattle.nl_volume_stage.specs.Serving.{counts_of};
-ghost use Rattle.nl_volume.specs.Closing.{CommitsLast, IsCommitted, IsYoungAtEnd, counts_on};
+ghost use Rattle.nl_volume.specs.Closing.{CommitsLast, ClosesCommitted, IsYoungAtEnd, counts_on};
 ghost use Rattle.nl_volume_stage.specs.Standing.{run_of};
 ghost use Rattle.nl_volume.specs.declared.volume.Volume.{Volume as VolumeOf};
 
@@ -40,18 +40,18 @@ impl<M: Nand> Volume<M> {
         requires { StandsForSome ⟦<Volume<M> as Kept>⟧.stands self }
         ensures stops { (v : VolumeOf M) (o : Opening) (h : List TurnEntry) → ⟦<Volume<M> as Kept>⟧.stands v o h self
             → IsYoungAtEnd M.tells o h (begun_of v.core) (M.clock result.media)
-            → StopsSafely SoundAs (λ m c. M.left (medium_of v.core.device) m c) (λ m c. M.left result.media m c) o.clock
+            → CrashesSafely ConsistentAs (λ m c. M.left (medium_of v.core.device) m c) (λ m c. M.left result.media m c) o.clock
             (M.clock result.media) (run_of o h) }
         ensures ends { (v : VolumeOf M) (o : Opening) (h : List TurnEntry) → ⟦<Volume<M> as Kept>⟧.stands v o h self
             → IsYoungAtEnd M.tells o h (begun_of v.core) (M.clock result.media)
-            → IsCommitted self.core result
+            → ClosesCommitted self.core result
             → (Rose (⟦<Device<M> as Counts>⟧.write_faults self.core.device) (M.write_faults result.media) → ⊥)
-            → SoundAs (M.contents result.media) (o.count + effects h) (tree_after o h) }
+            → ConsistentAs (M.contents result.media) (o.count + effects h) (tree_after o h) }
         ensures ends_well { (v : VolumeOf M) (o : Opening) (h : List TurnEntry) → ⟦<Volume<M> as Kept>⟧.stands v o h self
             → IsYoungAtEnd M.tells o h (begun_of v.core) (M.clock result.media)
             → (FaultRose (opening_counts o) (counts_on M.clock M.read_faults M.write_faults result.media) → ⊥) → result.worn ≡ false
-            → SoundAs (M.contents result.media) (o.count + effects h) (tree_after o h) }
-        ensures commits { IsCommitted self.core result → CommitsLast ⟦<Device<M> as Counts>⟧ self.core result.media }
+            → ConsistentAs (M.contents result.media) (o.count + effects h) (tree_after o h) }
+        ensures commits { ClosesCommitted self.core result → CommitsLast ⟦<Device<M> as Counts>⟧ self.core result.media }
         ensures left { (self.core.stopped ≢ 0) ⊎ (result.worn ≡ true) → result.media ≡ medium_of self.core.device }
         ensures counts { NeverFall (counts_of ⟦<Device<M> as Counts>⟧ self.core.device)
             (counts_on M.clock M.read_faults M.write_faults result.media) }

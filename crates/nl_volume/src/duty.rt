@@ -1,7 +1,7 @@
 // A background task on a volume.
 ghost use Rattle.std.specs.Prelude.{◌≡◌, ℕ, List, ◌++◌, ◌∷◌, []};
 ghost use Rattle.nl_tree.specs.Causes.{FaultRose, LostHasCause, NeverFall};
-ghost use Rattle.nl_core.specs.Duties.{DoesDuty};
+ghost use Rattle.nl_core.specs.Duties.{RunsBackgroundTask};
 ghost use Rattle.nl_turns.specs.History.{Opening};
 ghost use Rattle.nl_turns.specs.Served.{NoMoreToStage, StandsForSome, StaysReadOnly, duty_entry};
 ghost use Rattle.nl_turns.specs.declared.entry.Entry.{Entry as TurnEntry};
@@ -26,7 +26,7 @@ impl<M: Nand> Volume<M> {
         requires { StandsForSome ⟦<Volume<M> as Kept>⟧.stands self.old }
         ensures stands { (v : VolumeOf M) (o : Opening) (h : List TurnEntry) → ⟦<Volume<M> as Kept>⟧.stands v o h self.old
             → ⟦<Volume<M> as Kept>⟧.stands v o (h ++ duty_entry result ∷ []) self.new }
-        ensures does { DoesDuty ⟦<Device<M> as Counts>⟧
+        ensures does { RunsBackgroundTask ⟦<Device<M> as Counts>⟧
             (moving ⟦<Device<M> as MovingPages>⟧.victim ⟦<Device<M> as MovingPages>⟧.most_dead ⟦<Device<M> as MovingPages>⟧.coldest ⟦<Device<M> as MovingPages>⟧.blank)
             which self.old.core self.new.core result }
         ensures counts { NeverFall (counts_of ⟦<Device<M> as Counts>⟧ self.old.core.device)

@@ -4,10 +4,10 @@ ghost use Rattle.nl_tree.specs.Causes.{FaultIsDue, NeverFall, fault_due};
 ghost use Rattle.nl_tree.specs.Replay.{Answers};
 ghost use Rattle.nl_tree.specs.declared.call.Call.TheVariants.{Clean};
 ghost use Rattle.nl_turns.specs.Served.{FaultHasCause, FromEachWithLine, StandsForSomeWithLine, StaysReadOnly, effect_entry, ordinal_due, outcome_due, place_due};
-ghost use Rattle.nl_calls.specs.Answering.{Cleans, pages_of_files};
+ghost use Rattle.nl_calls.specs.Answering.{RunsReclaimPass, pages_of_files};
 ghost use Rattle.nl_volume.specs.Effects.{AnswersLine, CleansAndCounts};
 ghost use Rattle.nl_volume_stage.specs.Serving.{counts_of, refusing_of, some_number, to_stage_of};
-ghost use Rattle.nl_volume_stage.specs.Staging.{StandsWithLine};
+ghost use Rattle.nl_volume_stage.specs.Staging.{RepresentsWithLine};
 ghost use Rattle.nl_volume.specs.Moving.{moving};
 
 use crate::volume::Volume;
@@ -90,12 +90,12 @@ fn answer<D: MovingPages>(
     out: &mut ReplyBuf,
     page: &mut PageBuf,
 ) -> Answer
-    requires stands { StandsWithLine D.Counts worker line call.now core.old }
+    requires stands { RepresentsWithLine D.Counts worker line call.now core.old }
     requires files { files ≡ pages_of_files D.Counts core.old }
     requires known { worker < 8 }
     requires nothing { out.old ≡ [] }
     ensures answers { AnswersLine D.Counts worker line call.now core.old core.new result.reply out.new result.files }
-    ensures cleaned { call.now ≡ Clean → result.reply ≡ Reply.Done → Cleans D.Counts D.MovingPages.own core.old core.new }
+    ensures cleaned { call.now ≡ Clean → result.reply ≡ Reply.Done → RunsReclaimPass D.Counts D.MovingPages.own core.old core.new }
 {
     match refusal(core, worker, line, call) {
         Some(fault) => {
@@ -119,13 +119,13 @@ fn try_line<D: MovingPages>(
     out: &mut ReplyBuf,
     page: &mut PageBuf,
 ) -> Answer
-    requires stands { StandsWithLine D.Counts worker line call.now core.old }
+    requires stands { RepresentsWithLine D.Counts worker line call.now core.old }
     requires files { files ≡ pages_of_files D.Counts core.old }
     requires known { worker < 8 }
     requires nothing { out.old ≡ [] }
     requires tried { fault_due (refusing_of D.Counts core.old worker line) call.now ≡ None }
     ensures answers { AnswersLine D.Counts worker line call.now core.old core.new result.reply out.new result.files }
-    ensures cleaned { call.now ≡ Clean → result.reply ≡ Reply.Done → Cleans D.Counts D.MovingPages.own core.old core.new }
+    ensures cleaned { call.now ≡ Clean → result.reply ≡ Reply.Done → RunsReclaimPass D.Counts D.MovingPages.own core.old core.new }
 {
     leave_other(core, worker, line);
     answer_call(core, worker, line, call, files, out, page)

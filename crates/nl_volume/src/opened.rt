@@ -3,7 +3,7 @@ ghost use Rattle.nl_device.specs.Medium.{medium_of};
 ghost use Rattle.nl_field.specs.Scan.{greatest_wear, least_wear};
 ghost use Rattle.nl_core_open.specs.Figures.{pairs_of};
 ghost use Rattle.nl_core_open.specs.Opening.{OnlyReadsMedium};
-ghost use Rattle.nl_spec_image.specs.Stands.{SoundAs};
+ghost use Rattle.nl_spec_image.specs.Stands.{ConsistentAs};
 ghost use Rattle.nl_tree.specs.Tree.{Tree};
 ghost use Rattle.nl_tree.specs.declared.call.Line.{Line};
 ghost use Rattle.nl_volume.specs.Opening.{opening_of};
@@ -40,7 +40,7 @@ pub fn open<M: Nand>(alloc: Global, media: M) -> Result<Volume<M>, NotOpened<M>>
     ensures wear { IfOk result (λ v. M.tells → (v.least ≡ least_wear (M.contents media))
         × (v.greatest ≡ greatest_wear (M.contents media))) }
     ensures stands { IfOk result (λ v. (tree : Tree) (lines : List Line) → EachIsLine lines
-        → (M.tells → SoundAs (M.contents media) v.core.count tree)
+        → (M.tells → ConsistentAs (M.contents media) v.core.count tree)
         → ⟦<Volume<M> as Kept>⟧.stands v (opening_of ⟦<Device<M> as Counts>⟧ v.core tree lines) [] v) }
     ensures only_read { IfOk result (λ v. OnlyReadsMedium M.tells M.contents M.clock M.write_faults M.left media
         (medium_of v.core.device)) }

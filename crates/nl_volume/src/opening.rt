@@ -7,11 +7,11 @@ ghost use Rattle.nl_field.specs.Virtual.{virtual_bytes};
 ghost use Rattle.nl_meta.specs.Committed.{next_number};
 ghost use Rattle.nl_core_open.specs.Figures.{pairs_of};
 ghost use Rattle.nl_core_open.specs.Opening.{OnlyReadsMedium};
-ghost use Rattle.nl_spec_image.specs.Stands.{SoundAs};
+ghost use Rattle.nl_spec_image.specs.Stands.{ConsistentAs};
 ghost use Rattle.nl_tree.specs.Tree.{Tree};
 ghost use Rattle.nl_tree.specs.declared.call.Line.{Line as LineOf};
 ghost use Rattle.nl_volume_stage.specs.Standing.{EachIsLine};
-ghost use Rattle.nl_volume.specs.Opening.{IfOpened, IsFault, OpensImage, opened_medium, opening_of};
+ghost use Rattle.nl_volume.specs.Opening.{IfOpened, IsVolumeOpenFault, OpensImage, opened_medium, opening_of};
 
 use crate::volume::Volume;
 use nl_core_open::{Opened as Begun, open};
@@ -44,9 +44,9 @@ impl<M: Nand> Volume<M> {
     /// tells.
     pub fn open_volume(alloc: Global, media: M) -> Opened<M>
         ensures stands { (tree : Tree) (lines : List LineOf) → EachIsLine lines
-            → IfOpened result (λ v. (M.tells → SoundAs (M.contents media) v.core.count tree)
+            → IfOpened result (λ v. (M.tells → ConsistentAs (M.contents media) v.core.count tree)
             → ⟦<Volume<M> as Kept>⟧.stands v (opening_of ⟦<Device<M> as Counts>⟧ v.core tree lines) [] v) }
-        ensures sound { M.tells → IfOpened result (λ v. (tree : Tree) × SoundAs (M.contents media) v.core.count tree) }
+        ensures sound { M.tells → IfOpened result (λ v. (tree : Tree) × ConsistentAs (M.contents media) v.core.count tree) }
         ensures told { M.tells → OpensImage (M.contents media) result }
         ensures next_stamp { M.tells → IfOpened result (λ v. ⟦<Device<M> as Counts>⟧.next_stamp v.core.device
             ≡ next_stamp_of (M.contents media)) }
@@ -57,8 +57,8 @@ impl<M: Nand> Volume<M> {
         ensures wear { M.tells → IfOpened result (λ v. (v.least ≡ least_wear (M.contents media))
             × (v.greatest ≡ greatest_wear (M.contents media))) }
         ensures medium { OnlyReadsMedium M.tells M.contents M.clock M.write_faults M.left media (opened_medium result) }
-        ensures fault { IsFault result → Rose (M.read_faults media) (M.read_faults (opened_medium result)) }
-        ensures no_fault { (IsFault result → ⊥) → M.read_faults (opened_medium result) ≡ M.read_faults media }
+        ensures fault { IsVolumeOpenFault result → Rose (M.read_faults media) (M.read_faults (opened_medium result)) }
+        ensures no_fault { (IsVolumeOpenFault result → ⊥) → M.read_faults (opened_medium result) ≡ M.read_faults media }
     {
         let Ok(page) = PageBuf::new(alloc) else {
             return Opened::Memory(media);

@@ -1,6 +1,6 @@
 ghost use Rattle.std.specs.Prelude.{◌≡◌};
 ghost use Rattle.nl_turns.specs.Served.{StandsForSome};
-ghost use Rattle.nl_volume.specs.Reporting.{TellsCharges};
+ghost use Rattle.nl_volume.specs.Reporting.{ReportsCharges};
 
 use crate::volume::Volume;
 use nl_device::Device;
@@ -34,7 +34,7 @@ impl<M: Nand> Volume<M> {
     /// opening, and its next write sequence number.
     pub fn report(&self) -> VolumeReport
         requires { StandsForSome ⟦<Volume<M> as Kept>⟧.stands self.now }
-        ensures charges { TellsCharges ⟦<Device<M> as Counts>⟧ self.now.core result }
+        ensures charges { ReportsCharges ⟦<Device<M> as Counts>⟧ self.now.core result }
         ensures pairs { result.pairs ≡ (⟦<Device<M> as Counts>⟧.names self.now.core.device).space.pairs }
         ensures wear { (result.least ≡ self.now.least) × (result.greatest ≡ self.now.greatest) }
         ensures stamp { result.stamp ≡ ⟦<Device<M> as Counts>⟧.next_stamp self.now.core.device }

@@ -22,9 +22,9 @@ pub struct Volume<M: Nand> {
 }
 
 impl<M: Nand> Kept for Volume<M> {
-    ghost use Rattle.nl_volume.specs.Standing.{VolumeStands};
+    ghost use Rattle.nl_volume.specs.Standing.{VolumeRepresents};
 
-    ghost stands = { λ origin o h v. VolumeStands ⟦<Device<M> as Counts>⟧ origin o h v };
+    ghost stands = { λ origin o h v. VolumeRepresents ⟦<Device<M> as Counts>⟧ origin o h v };
 }
 
 impl<M: Nand> Volume<M> {

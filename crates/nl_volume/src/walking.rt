@@ -1,7 +1,7 @@
 // The walk over the paths of a volume.
 ghost use Rattle.std.specs.Prelude.{◌≡◌, ℕ, List, false};
 ghost use Rattle.nl_calls_steps.specs.Steps.{ReadsOn};
-ghost use Rattle.nl_meta_running.specs.Reading.{Reads};
+ghost use Rattle.nl_meta_running.specs.Reading.{ReadsExplainStop};
 ghost use Rattle.nl_turns.specs.History.{Opening};
 ghost use Rattle.nl_turns.specs.Served.{StandsForSome};
 ghost use Rattle.nl_turns.specs.declared.entry.Entry.{Entry as TurnEntry};
@@ -31,7 +31,7 @@ impl<M: Nand> Volume<M> {
         ensures way { IsOnWay ⟦<Device<M> as Counts>⟧ self.new.core walk.new }
         ensures gives { GivesNext ⟦<Device<M> as Counts>⟧ self.old.core walk.old walk.new result }
         ensures stays { is_path result ≡ false → walk.new ≡ walk.old }
-        ensures reads { Reads ⟦<Device<M> as Counts>⟧ self.old.core.device self.new.core.device (item_stop result) }
+        ensures reads { ReadsExplainStop ⟦<Device<M> as Counts>⟧ self.old.core.device self.new.core.device (item_stop result) }
     {
         device_stands(&self.core.device);
         let item = nl_volume_list::next_path(&mut self.core, walk);

@@ -7,7 +7,7 @@ use Rattle.nl_field.specs.declared.place.What.TheVariants.{Super}
 use Rattle.nl_tree.specs.Tree.{empty_tree}
 use Rattle.nl_meta.specs.Walk.{walk}
 use Rattle.nl_spec_image.specs.Formatted.{formatted_root, formatted_super}
-use Rattle.nl_spec_image.specs.Stands.{SoundAs}
+use Rattle.nl_spec_image.specs.Stands.{ConsistentAs}
 use Rattle.nl_volume_format.specs.declared.making.Made.{Made}
 use Rattle.nl_volume_format.specs.declared.making.Made.TheVariants.{Done, Fault, Memory}
 
@@ -25,7 +25,7 @@ pub record IsBegun (blocks pages : ℕ) (image : Image) : Type 0 where
 
 -- The image opens as blank, as damaged at its super page, or as the tree with only the root after no call.
 abbrev pub OpensAsNew : Image → Type 0
-OpensAsNew image = (readable_pages image ≡ []) ⊎ ((walk image ≡ Some (record { place = 0; what = Super })) ⊎ SoundAs image 0 empty_tree)
+OpensAsNew image = (readable_pages image ≡ []) ⊎ ((walk image ≡ Some (record { place = 0; what = Super })) ⊎ ConsistentAs image 0 empty_tree)
 
 abbrev pub MakingsAreSafe : Type 0
 MakingsAreSafe = (blocks pages : ℕ) (image : Image) → IsTrue (is_legal blocks pages) → IsBegun blocks pages image → OpensAsNew image
@@ -38,17 +38,17 @@ made_medium (Done m) = m
 made_medium (Fault m) = m
 made_medium (Memory m) = m
 
-abbrev pub IfDone : {M : Type 0} → Made M → (M → Type 0) → Type 0
-IfDone (Done m) P = P m
-IfDone (Fault m) P = ⊤
-IfDone (Memory m) P = ⊤
+abbrev pub IfMade : {M : Type 0} → Made M → (M → Type 0) → Type 0
+IfMade (Done m) P = P m
+IfMade (Fault m) P = ⊤
+IfMade (Memory m) P = ⊤
 
-abbrev pub IsFault : {M : Type 0} → Made M → Type 0
-IsFault (Done m) = ⊥
-IsFault (Fault m) = ⊤
-IsFault (Memory m) = ⊥
+abbrev pub IsMakeFault : {M : Type 0} → Made M → Type 0
+IsMakeFault (Done m) = ⊥
+IsMakeFault (Fault m) = ⊤
+IsMakeFault (Memory m) = ⊥
 
-abbrev pub IfMemory : {M : Type 0} → Made M → (M → Type 0) → Type 0
-IfMemory (Done m) P = ⊤
-IfMemory (Fault m) P = ⊤
-IfMemory (Memory m) P = P m
+abbrev pub IfMakeMemory : {M : Type 0} → Made M → (M → Type 0) → Type 0
+IfMakeMemory (Done m) P = ⊤
+IfMakeMemory (Fault m) P = ⊤
+IfMakeMemory (Memory m) P = P m

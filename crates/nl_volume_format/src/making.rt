@@ -2,10 +2,10 @@ ghost use Rattle.std.specs.Prelude.{◌≡◌, ◌⊎◌, ◌+◌, ◌<◌, ◌*
 ghost use Rattle.nl_field.specs.CrashStates.{Rose};
 ghost use Rattle.nl_field.specs.Numbers.{is_legal};
 ghost use Rattle.nl_field.specs.Page.{Image, written};
-ghost use Rattle.nl_volume_format.specs.Making.{IfDone, IfMemory, IsFault, OpensAsNew, made_medium};
-ghost use Rattle.nl_nand.specs.Nand.{CanProgram, CrashLeaves, FaultsCounted, Leaves, OperationCounted, Unchanged};
+ghost use Rattle.nl_volume_format.specs.Making.{IfMade, IfMakeMemory, IsMakeFault, OpensAsNew, made_medium};
+ghost use Rattle.nl_nand.specs.Nand.{CanProgram, CrashLeaves, FaultsCounted, OperationLeaves, OperationCounted, Unchanged};
 ghost use Rattle.nl_spec_image.specs.Formatted.{IsFormatted};
-ghost use Rattle.nl_spec_image.specs.Stands.{SoundAs};
+ghost use Rattle.nl_spec_image.specs.Stands.{ConsistentAs};
 ghost use Rattle.nl_tree.specs.Tree.{empty_tree};
 
 use crate::laws::makings_are_safe;
@@ -29,13 +29,13 @@ pub enum Made<M: Nand> {
 /// damaged at its super page, or the empty volume.
 pub fn make<M: Nand>(alloc: Global, media: M, blocks: u32, pages: u32) -> Made<M>
     requires { IsTrue (is_legal blocks pages) }
-    ensures done { IfDone result (λ m. M.geometry m ≡ record { blocks = blocks; pages = pages }) }
-    ensures formatted { M.tells → IfDone result (λ m. IsFormatted blocks pages (M.contents m)) }
-    ensures stands { M.tells → IfDone result (λ m. SoundAs (M.contents m) 0 empty_tree) }
-    ensures fault { IsFault result → Rose (M.write_faults media) (M.write_faults (made_medium result)) }
-    ensures no_fault { (IsFault result → ⊥) → M.write_faults (made_medium result) ≡ M.write_faults media }
-    ensures memory { IfMemory result (λ m. Unchanged M.geometry M.contents M.left media m) }
-    ensures clock { IfMemory result (λ m. M.clock m ≡ M.clock media) }
+    ensures done { IfMade result (λ m. M.geometry m ≡ record { blocks = blocks; pages = pages }) }
+    ensures formatted { M.tells → IfMade result (λ m. IsFormatted blocks pages (M.contents m)) }
+    ensures stands { M.tells → IfMade result (λ m. ConsistentAs (M.contents m) 0 empty_tree) }
+    ensures fault { IsMakeFault result → Rose (M.write_faults media) (M.write_faults (made_medium result)) }
+    ensures no_fault { (IsMakeFault result → ⊥) → M.write_faults (made_medium result) ≡ M.write_faults media }
+    ensures memory { IfMakeMemory result (λ m. Unchanged M.geometry M.contents M.left media m) }
+    ensures clock { IfMakeMemory result (λ m. M.clock m ≡ M.clock media) }
     ensures left { M.tells → (m : ℕ) (c : Image) → M.left (made_medium result) m c → M.left media m c ⊎ OpensAsNew c }
     ensures read_faults { M.read_faults (made_medium result) ≡ M.read_faults media }
 {

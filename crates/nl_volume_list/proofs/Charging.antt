@@ -13,9 +13,9 @@ use Rattle.nl_field.specs.declared.inode.Kind.{Kind}
 use Rattle.nl_field.specs.declared.inode.Kind.TheVariants.{Dir, File, Unused}
 use Rattle.nl_field.specs.declared.shape.Shape.{Shape}
 use Rattle.nl_field.proofs.Bounds.{bounds}
-use Rattle.nl_spec_commits.specs.Trees.{RunsAs}
+use Rattle.nl_spec_commits.specs.Trees.{RepresentsTree}
 use Rattle.nl_inode.specs.Free.{count_free, is_free}
-use Rattle.nl_inode.specs.FreeLaws.{NodesAreFree, PoolIsFree, Uses}
+use Rattle.nl_inode.specs.FreeLaws.{NodesAreFree, PoolIsFree, UsesAddress}
 use Rattle.nl_inode.specs.Nodes.{Spaces}
 use Rattle.nl_meta.specs.Committed.{VirtualMap}
 use Rattle.nl_meta.specs.Consistent.{IsNode, NodesRight, PageOfStamp}
@@ -102,7 +102,7 @@ slot-has [] i a e = absurd (none e)
 slot-has (x ∷ xs) zero a e = inl (some_in x a e)
 slot-has (x ∷ xs) (suc i) a e = inr (slot-has xs i a e)
 
-module _ (shape : Shape) (pages : VirtualMap) (page_of_stamp : ℕ → Option PageOfStamp) (tree : Tree) (runs : RunsAs shape pages page_of_stamp tree) (s : Spaces) where
+module _ (shape : Shape) (pages : VirtualMap) (page_of_stamp : ℕ → Option PageOfStamp) (tree : Tree) (runs : RepresentsTree shape pages page_of_stamp tree) (s : Spaces) where
   numbers : List ℕ
   numbers = map (λ (x : ℕ × InodeRec). x.0) (used_nodes shape pages)
 
@@ -162,7 +162,7 @@ module _ (shape : Shape) (pages : VirtualMap) (page_of_stamp : ℕ → Option Pa
   all : List ℕ
   all = map (λ (y : Bool × ℕ). y.1) (flat_map addresses_of (used_nodes shape pages))
 
-  listed : (a : ℕ) → Uses shape pages a → Has all a
+  listed : (a : ℕ) → UsesAddress shape pages a → Has all a
   unfolding all
   listed a u =
       let at = u.2 in
@@ -170,14 +170,14 @@ module _ (shape : Shape) (pages : VirtualMap) (page_of_stamp : ℕ → Option Pa
       (flat-member addresses_of (used_nodes shape pages) (u.0, at.rec) (is_file_kind at.rec.kind, a) (is_used shape pages u.0 at.rec at.is_node)
       (map-member (λ a. (is_file_kind at.rec.kind, a)) (filter (λ a. not (a == 0)) at.rec.addresses) a (filter-member (λ a. not (a == 0)) at.rec.addresses a (slot-has at.rec.addresses u.1 a at.in_slot) (not_from_false _ (ne_eqb a 0 at.not_zero)))))
 
-  used : (a : ℕ) → Has all a → Uses shape pages a
+  used : (a : ℕ) → Has all a → UsesAddress shape pages a
   unfolding all
   used a h =
       let y = member-map (λ (y : Bool × ℕ). y.1) (flat_map addresses_of (used_nodes shape pages)) a h in
       let m = member_address shape pages y.0 y.1 in
       let slot = slot-of m.1.addresses m.2 m.4 in
       let same = ap (λ (z : Bool × ℕ). z.1) m.6 ∙ y.2 in
-      subst (Uses shape pages) same (m.0, slot.0, record { rec = m.1; is_node = m.3; in_slot = slot.1; not_zero = m.5 })
+      subst (UsesAddress shape pages) same (m.0, slot.0, record { rec = m.1; is_node = m.3; in_slot = slot.1; not_zero = m.5 })
 
   all-differ : Differ all
   unfolding all

@@ -15,7 +15,7 @@ use Rattle.nl_tree.specs.Represents.{node_reached}
 use Rattle.nl_tree.specs.Tree.{path_cmp}
 use Rattle.nl_tree.proofs.GraphProofs.{reached-append}
 use Rattle.nl_volume_list.specs.Entries.{HasLeastBehind, HasNoneBehind, is_behind}
-use Rattle.nl_volume_list.specs.Onward.{IsNext, NoneUnder}
+use Rattle.nl_volume_list.specs.Onward.{IsNextPath, NoneUnder}
 
 abbrev pub Path : Type 0
 Path = List (List ℕ)
@@ -115,7 +115,7 @@ module _ (graph : Graph) (here p a : Path) (k : ℕ) (at : node_reached graph 0 
   module _ (name : List ℕ) where
     next-of : path_cmp a (name ∷ []) ≡ Less
         → ((x : List ℕ) (r : Path) (n m : ℕ) → node_reached graph 0 (p ++ x ∷ r) ≡ Some n → path_cmp here (p ++ x ∷ r) ≡ Less → entry_at graph k x ≡ Some m → path_cmp a (x ∷ r) ≡ Less → slice_cmp nat_cmp x name ≡ Less → ⊥)
-        → IsNext graph here (p ++ name ∷ [])
+        → IsNextPath graph here (p ++ name ∷ [])
     next-of less none = record { behind = compared (name ∷ []) ∙ less; between = between }
       where
         after : (r : Path) → path_cmp r [] ≡ Less → ⊥
@@ -140,7 +140,7 @@ module _ (graph : Graph) (here p a : Path) (k : ℕ) (at : node_reached graph 0 
 
   module _ (entry : EntryRec) where
     -- the least entry of the path itself
-    pub first-next : a ≡ [] → ((x : List ℕ) (m : ℕ) → entry_at graph k x ≡ Some m → x ≢ []) → HasLeastBehind graph k [] entry → IsNext graph here (p ++ entry.name ∷ [])
+    pub first-next : a ≡ [] → ((x : List ℕ) (m : ℕ) → entry_at graph k x ≡ Some m → x ≢ []) → HasLeastBehind graph k [] entry → IsNextPath graph here (p ++ entry.name ∷ [])
     first-next end named least = next-of entry.name (ap (λ (b : Path). path_cmp b (entry.name ∷ [])) end) (λ x r n m e h at f c. true-false (sym (ap is_lt c) ∙ least.least x m at (some x (named x m at))))
       where
         some : (x : List ℕ) → x ≢ [] → is_behind [] x ≡ true
@@ -148,7 +148,7 @@ module _ (graph : Graph) (here p a : Path) (k : ℕ) (at : node_reached graph 0 
         some (b ∷ x) far = refl
 
     -- the least behind a name of the path
-    pub beside-next : (h : List ℕ) (rest : Path) → a ≡ h ∷ rest → HasLeastBehind graph k h entry → NoneUnder graph here (p ++ h ∷ []) → IsNext graph here (p ++ entry.name ∷ [])
+    pub beside-next : (h : List ℕ) (rest : Path) → a ≡ h ∷ rest → HasLeastBehind graph k h entry → NoneUnder graph here (p ++ h ∷ []) → IsNextPath graph here (p ++ entry.name ∷ [])
     beside-next h rest end least deeper =
         next-of entry.name (ap (λ (b : Path). path_cmp b (entry.name ∷ [])) end ∙ ap (λ (o : Ordering). ordering_then o (path_cmp rest [])) (less-is (slice_cmp nat_cmp h entry.name) least.behind)) none
       where

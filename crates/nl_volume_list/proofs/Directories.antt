@@ -22,7 +22,7 @@ use Rattle.nl_meta.specs.Pages.{Pages, page_of}
 use Rattle.nl_meta.proofs.Lists.{none_some}
 use Rattle.nl_meta.proofs.NodeProofs.{same_rec}
 use Rattle.nl_namespace.specs.Holding.{HasEntries}
-use Rattle.nl_meta_running.specs.Running.{IsNodeOf, IsUsed, Runs, RunsOn, running_on, stored_on}
+use Rattle.nl_meta_running.specs.Running.{IsNodeOf, IsUsedNode, RunningIsRight, PreservesRunning, running_on, stored_on}
 use Rattle.nl_meta_running.proofs.GraphStays.{graph-same}
 use Rattle.nl_meta_running.proofs.SameNeeded.{own}
 use Rattle.nl_spec_image.proofs.GraphOfPages.{entry_found, entry_is, reached_is_node}
@@ -97,22 +97,22 @@ module _ (shape : Shape) (pages : VirtualMap) (right : EntriesRight shape pages)
       }
 
 module _ {D : Type 0} (g : Ghosts D) (s : D) (p : Pages) where
-  module _ (runs : Runs g s p) where
+  module _ (runs : RunningIsRight g s p) where
     -- a node that a path leads to is used
-    pub used-at : ShapeBounds (g.shape s) → (q : List (List ℕ)) (n : ℕ) → node_reached (graph_of (g.shape s) (running_on g s p)) 0 q ≡ Some n → IsUsed g s p n
+    pub used-at : ShapeBounds (g.shape s) → (q : List (List ℕ)) (n : ℕ) → node_reached (graph_of (g.shape s) (running_on g s p)) 0 q ≡ Some n → IsUsedNode g s p n
     used-at bounds q n e =
         let some = bounds.some_nodes in
         let r = reached_is_node (g.shape s) (running_on g s p) runs.entries runs.nodes q n (omega (arith, some)) e in
         (r.rec, r.is)
 
-  module _ (t : D) (q : Pages) (bounds : ShapeBounds (g.shape s)) (on : RunsOn g s p t q) where
+  module _ (t : D) (q : Pages) (bounds : ShapeBounds (g.shape s)) (on : PreservesRunning g s p t q) where
     -- the nodes stay
     pub graph-stays : graph_of (g.shape t) (running_on g t q) ≡ graph_of (g.shape s) (running_on g s p)
     graph-stays = ap (λ (n : Shape). graph_of n (running_on g t q)) on.reads.medium.virtual.same_shape ∙ graph-same (g.shape s) bounds (running_on g s p) (running_on g t q) on.needed
 
     module _ (n : ℕ) (rec : InodeRec) (is : IsNodeOf g s p n rec) (dir : rec.kind ≡ Dir) where
       -- a directory whose pages were made resident
-      pub entries-held : Runs g s p → ((k : ℕ) → k < div_ceil rec.size 64 → IsSome (page_of q (get_or rec.addresses k 0))) → HasEntries g s p q rec
+      pub entries-held : RunningIsRight g s p → ((k : ℕ) → k < div_ceil rec.size 64 → IsSome (page_of q (get_or rec.addresses k 0))) → HasEntries g s p q rec
       entries-held runs there =
           let owned = own (g.shape s) bounds (running_on g s p) (running_on g t q) on.needed n rec is dir in
           let right = right_is_directory (g.shape s) (running_on g s p) n rec runs.addresses runs.entries is dir in

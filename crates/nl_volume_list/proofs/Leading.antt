@@ -9,7 +9,7 @@ use Rattle.nl_tree.specs.Represents.{node_reached}
 use Rattle.nl_tree.proofs.ChangeProofs.{at_end}
 use Rattle.nl_volume_list.specs.Entries.{HasLeastBehind, HasNoneBehind}
 use Rattle.nl_meta_running.specs.declared.answer.Stop.{Stop}
-use Rattle.nl_volume_list.specs.Onward.{GoesOn, IsLast, LeadsOn, NoneUnder}
+use Rattle.nl_volume_list.specs.Onward.{StepsOnward, IsLast, LeadsOn, NoneUnder}
 use Rattle.nl_volume_list.specs.Walks.{OnWay, WalkState}
 use Rattle.nl_volume_list.specs.declared.walk.Onward.{Onward}
 use Rattle.nl_volume_list.proofs.Climbing.{Path, bare, beside-next, climbed, first-next}
@@ -108,5 +108,5 @@ module _ (graph : Graph) (walk : WalkState) (way : OnWay graph walk) (begun : wa
   under-root i e none = subst (λ (k : ℕ). NoneUnder graph walk.path (take k walk.path)) e none
 
 -- over the same nodes
-pub goes-as : (g h : Graph) (walk : WalkState) (r : Result (Option Onward) Stop) → g ≡ h → IfOk r (GoesOn g walk) → IfOk r (GoesOn h walk)
-goes-as g h walk r same goes = subst (λ (n : Graph). IfOk r (GoesOn n walk)) same goes
+pub goes-as : (g h : Graph) (walk : WalkState) (r : Result (Option Onward) Stop) → g ≡ h → IfOk r (StepsOnward g walk) → IfOk r (StepsOnward h walk)
+goes-as g h walk r same goes = subst (λ (n : Graph). IfOk r (StepsOnward n walk)) same goes

@@ -8,13 +8,13 @@ use Rattle.std.specs.FinMap.Entries.{below_all, find, find-where_key, is_sorted,
 use Rattle.nl_tree.specs.Tree.{Node, Tree, all_paths, entries_of, node_at, path_cmp, paths_eq}
 use Rattle.nl_tree.specs.TreeLaws.{IsInOrder}
 use Rattle.nl_tree.proofs.TreeProofs.{alike, eq_path, path_eq, paths_antisymmetric, paths_total}
-use Rattle.nl_volume_list.specs.Items.{Told, item_of, items_behind, items_of}
+use Rattle.nl_volume_list.specs.Items.{PathItem, item_of, items_behind, items_of}
 use Rattle.nl_volume_list.specs.declared.item.TreeItem.{TreeItem}
 use Rattle.nl_volume_list.proofs.Climbing.{Path, equal-less, greater-less}
 
 -- ---- the items of a tree
 
-item-for : Tree → List (List ℕ) × Node → Told
+item-for : Tree → List (List ℕ) × Node → PathItem
 item-for tree e = (e.0, item_of (length (entries_of tree e.0)) e.1)
 
 below-same : (tree xs : Tree) (q : Path) → below_all path_cmp q (map (λ e. (e.0, item_of (length (entries_of tree e.0)) e.1)) xs) ≡ below_all path_cmp q xs
@@ -54,7 +54,7 @@ both : (a b : Bool) → T a → T b → T (a && b)
 both true b x y = y
 both false b x y = absurd x
 
-below-behind : (q : Path) (es : List Told) → T (below_all path_cmp q (items_behind q es))
+below-behind : (q : Path) (es : List PathItem) → T (below_all path_cmp q (items_behind q es))
 unfolding items_behind
 below-behind q [] = tt
 below-behind q (e ∷ es) =
@@ -69,7 +69,7 @@ none-either true false o e = e
 none-either false true o e = sym e
 none-either false false o e = refl
 
-module _ (es : List Told) (sorted : T (is_sorted path_cmp es)) where
+module _ (es : List PathItem) (sorted : T (is_sorted path_cmp es)) where
   behind-at : (q r : Path) → find path_cmp r (items_behind q es) ≡ cond (is_lt (path_cmp q r)) (find path_cmp r es) None
   unfolding items_behind
   behind-at q r = find-where_key path_cmp (λ x. is_lt (path_cmp q x)) r (alike (λ x. is_lt (path_cmp q x)) r) es

@@ -18,7 +18,7 @@ use Rattle.nl_meta.specs.Consistent.{AddressesRight, EntriesRight, IsNode}
 use Rattle.nl_meta.specs.Nodes.{entries_of_inode, graph_of, pointers_of_inode}
 use Rattle.nl_spec_image.proofs.Sums.{length_mapped}
 use Rattle.nl_volume_list.proofs.Giving.{body-is}
-use Rattle.nl_meta_running.specs.Reading.{Reads}
+use Rattle.nl_meta_running.specs.Reading.{ReadsExplainStop}
 use Rattle.nl_meta_running.specs.declared.answer.Stop.{Stop}
 use Rattle.nl_meta_running.specs.declared.answer.Stop.TheVariants as stop
 use Rattle.nl_meta_running.proofs.Holds.{bounds-of}
@@ -26,9 +26,9 @@ use Rattle.nl_core.specs.declared.state.Core.{Core}
 use Rattle.nl_calls_steps.specs.Steps.{ReadsOn}
 use Rattle.nl_tree.specs.Represents.{node_reached}
 use Rattle.nl_tree.proofs.ChangeProofs.{root_reached}
-use Rattle.nl_volume_list.specs.Next.{GaveAt, IsOnWay, TellsFile, nodes_of}
+use Rattle.nl_volume_list.specs.Next.{GaveAt, IsOnWay, IsItemOfFile, nodes_of}
 use Rattle.nl_volume_list.specs.Onward.{LeadsOn, path_to}
-use Rattle.nl_volume_list.specs.Walks.{OnWay, TellsNode, WalkState, item_stop}
+use Rattle.nl_volume_list.specs.Walks.{OnWay, IsItemOfNode, WalkState, item_stop}
 use Rattle.nl_volume_list.specs.declared.item.TreeItem.{TreeItem}
 use Rattle.nl_volume_list.specs.declared.item.TreeItem.TheVariants as item
 use Rattle.nl_volume_list.specs.declared.walk.Onward.{Onward}
@@ -142,14 +142,14 @@ module _ {D : Type 0} (g : Ghosts D) (u v : Core D) (volume : IsVolumeShape (g.s
 
 -- ---- what is told
 
-pub told-file : (body : NodeBody) (pages : VirtualMap) (rec : InodeRec) (answer : TreeItem) → body ≡ file_node rec.size (pointers_of_inode pages rec) → TellsFile pages rec answer → TellsNode body answer
+pub told-file : (body : NodeBody) (pages : VirtualMap) (rec : InodeRec) (answer : TreeItem) → body ≡ file_node rec.size (pointers_of_inode pages rec) → IsItemOfFile pages rec answer → IsItemOfNode body answer
 told-file body pages rec (item.Dir k) is told = absurd told
 told-file body pages rec (item.File size k) is told = (pointers_of_inode pages rec, is ∙ ap (λ (s : ℕ). file_node s (pointers_of_inode pages rec)) (sym told.0), told.1)
 told-file body pages rec item.End is told = absurd told
 told-file body pages rec item.Fault is told = tt
 told-file body pages rec (item.Lost w f) is told = tt
 
-pub told-dir : (shape : Shape) (pages : VirtualMap) (n : ℕ) (rec : InodeRec) (k : ℕ) → AddressesRight shape pages → EntriesRight shape pages → IsNode shape pages n rec → rec.kind ≡ Dir → k ≡ rec.size → TellsNode (graph_of shape pages n).body (item.Dir k)
+pub told-dir : (shape : Shape) (pages : VirtualMap) (n : ℕ) (rec : InodeRec) (k : ℕ) → AddressesRight shape pages → EntriesRight shape pages → IsNode shape pages n rec → rec.kind ≡ Dir → k ≡ rec.size → IsItemOfNode (graph_of shape pages n).body (item.Dir k)
 told-dir shape pages n rec k addresses entries is dir e = (
   map (λ (x : EntryRec). (x.name, x.ino)) (entries_of_inode pages rec),
   body-is shape pages n rec is Dir dir,
@@ -157,7 +157,7 @@ told-dir shape pages n rec k addresses entries is dir e = (
 )
 
 -- where pages could not be read, nothing is told
-pub told-none : (body : NodeBody) (answer : TreeItem) (s : Stop) → item_stop answer ≡ Some s → TellsNode body answer
+pub told-none : (body : NodeBody) (answer : TreeItem) (s : Stop) → item_stop answer ≡ Some s → IsItemOfNode body answer
 told-none body (item.Dir k) s e = absurd (none_some s e)
 told-none body (item.File size k) s e = absurd (none_some s e)
 told-none body item.End s e = absurd (none_some s e)
@@ -171,11 +171,11 @@ lost-no-fault : (w f : ℕ) → counted.Lost w f ≡ counted.Fault → ⊥
 lost-no-fault w f e = cc
 
 module _ {D : Type 0} (g : Ghosts D) (s t : D) where
-  pub reads-pages : (n : ℕ) → ReadsCounted g (counted.Pages n ≡ counted.Fault) s t → Reads g s t None
+  pub reads-pages : (n : ℕ) → ReadsCounted g (counted.Pages n ≡ counted.Fault) s t → ReadsExplainStop g s t None
   reads-pages n c = c.stays tt (pages-no-fault n)
 
-  pub reads-lost : (rec : InodeRec) (w f : ℕ) → ReadsCounted g (counted.Lost w f ≡ counted.Fault) s t → LosesCount (IsPageStamp (g.stamps s) rec) (counted.Lost w f) → (g.tells → ⊥) → Reads g s t (Some (stop.Lost w f))
+  pub reads-lost : (rec : InodeRec) (w f : ℕ) → ReadsCounted g (counted.Lost w f ≡ counted.Fault) s t → LosesCount (IsPageStamp (g.stamps s) rec) (counted.Lost w f) → (g.tells → ⊥) → ReadsExplainStop g s t (Some (stop.Lost w f))
   reads-lost rec w f c lost silent = (c.stays tt (lost-no-fault w f), (_, lost.0.stamp), lost.1, silent)
 
-  pub reads-fault : ReadsCounted g (counted.Fault ≡ counted.Fault) s t → Reads g s t (Some stop.Fault)
+  pub reads-fault : ReadsCounted g (counted.Fault ≡ counted.Fault) s t → ReadsExplainStop g s t (Some stop.Fault)
   reads-fault c = record { never_falls = c.never_falls; cause = λ u. c.cause refl; once = λ u v. c.once u refl; stays = λ u f. absurd (f tt) }

@@ -5,7 +5,7 @@ use Rattle.nl_tree.specs.Tree.{Tree}
 use Rattle.nl_iface.specs.declared.counts.Counts.{Ghosts}
 use Rattle.nl_meta.specs.Consistent.{PageOfStamp}
 use Rattle.nl_journal_commit.specs.Holding.{running_holders}
-use Rattle.nl_core.specs.Trees.{CoreRuns}
+use Rattle.nl_core.specs.Trees.{CoreRepresentsTree}
 use Rattle.nl_core.specs.declared.state.Core.{Core}
 use Rattle.nl_volume_list.specs.declared.counting.Taken.{Taken}
 
@@ -15,10 +15,10 @@ pub record IsCharged (taken : Taken) (tree : Tree) : Type 0 where
   pub meta : taken.meta ≡ meta_charge tree
 
 abbrev pub CountsCharges : {D : Type 0} → Ghosts D → Core D → Taken → Type 0
-CountsCharges g v taken = (page_of_stamp : ℕ → Option PageOfStamp) (tree : Tree) → CoreRuns g v page_of_stamp tree → IsCharged taken tree
+CountsCharges g v taken = (page_of_stamp : ℕ → Option PageOfStamp) (tree : Tree) → CoreRepresentsTree g v page_of_stamp tree → IsCharged taken tree
 
 -- The pages of the files of a tree as which a core runs are those that are held for them.
 abbrev pub FilesAreCharged : {D : Type 0} → Ghosts D → Type 0
 FilesAreCharged {D} g =
-    (v : Core D) (page_of_stamp : ℕ → Option PageOfStamp) (tree : Tree) → CoreRuns g v page_of_stamp tree
+    (v : Core D) (page_of_stamp : ℕ → Option PageOfStamp) (tree : Tree) → CoreRepresentsTree g v page_of_stamp tree
     → data_charge tree ≡ length (running_holders g v.device v.meta)

@@ -12,7 +12,7 @@ abbrev pub is_behind : List ℕ → List ℕ → Bool
 is_behind after name = is_lt (slice_cmp nat_cmp after name)
 
 -- An entry is the least of these behind a name.
-pub record IsLeast (entries : List EntryRec) (after : List ℕ) (entry : EntryRec) : Type 0 where
+pub record IsNextEntry (entries : List EntryRec) (after : List ℕ) (entry : EntryRec) : Type 0 where
   pub has : Has entries entry
   pub behind : is_behind after entry.name ≡ true
   pub least : (other : EntryRec) → Has entries other → is_behind after other.name ≡ true → is_behind other.name entry.name ≡ false
@@ -25,7 +25,7 @@ is_lesser entry (Some other) = is_behind entry.name other.name
 -- The least of them behind a name, or none where none is behind it.
 abbrev pub IsLeastOf : List EntryRec → List ℕ → Option EntryRec → Type 0
 IsLeastOf entries after None = (other : EntryRec) → Has entries other → is_behind after other.name ≡ false
-IsLeastOf entries after (Some entry) = IsLeast entries after entry
+IsLeastOf entries after (Some entry) = IsNextEntry entries after entry
 
 -- ---- of a node
 

@@ -8,7 +8,7 @@ use Rattle.nl_tree.specs.Charges.{node_charge}
 use Rattle.nl_tree.specs.Tree.{IsTree, Tree, path_cmp}
 use Rattle.nl_iface.specs.declared.counts.Counts.{Ghosts}
 use Rattle.nl_meta.specs.Consistent.{PageOfStamp}
-use Rattle.nl_core.specs.Trees.{CoreRuns}
+use Rattle.nl_core.specs.Trees.{CoreRepresentsTree}
 use Rattle.nl_core.specs.declared.state.Core.{Core}
 use Rattle.nl_calls_steps.specs.Steps.{ReadsOn}
 use Rattle.nl_volume_list.specs.Items.{items_of}
@@ -30,11 +30,11 @@ ItemsAreCounted = (tree : Tree) → length (items_of tree) ≡ node_charge tree
 -- A core has no more paths than its volume may have nodes.
 abbrev pub FewItems : {D : Type 0} → Ghosts D → Type 0
 FewItems {D} g =
-    (v : Core D) (page_of_stamp : ℕ → Option PageOfStamp) (tree : Tree) → CoreRuns g v page_of_stamp tree
+    (v : Core D) (page_of_stamp : ℕ → Option PageOfStamp) (tree : Tree) → CoreRepresentsTree g v page_of_stamp tree
     → length (items_of tree) ≤ (g.shape v.device).nodes
 
 -- Where the medium tells its contents, a core of which pages were read runs as the same trees.
 abbrev pub ReadsRunOn : {D : Type 0} → Ghosts D → Type 0
 ReadsRunOn {D} g =
-    (u v : Core D) (page_of_stamp : ℕ → Option PageOfStamp) (tree : Tree) → g.tells → ReadsOn g u v → CoreRuns g u page_of_stamp tree
-    → CoreRuns g v page_of_stamp tree
+    (u v : Core D) (page_of_stamp : ℕ → Option PageOfStamp) (tree : Tree) → g.tells → ReadsOn g u v → CoreRepresentsTree g u page_of_stamp tree
+    → CoreRepresentsTree g v page_of_stamp tree

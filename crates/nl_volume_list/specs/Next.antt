@@ -8,9 +8,9 @@ use Rattle.nl_meta.specs.Consistent.{PageOfStamp}
 use Rattle.nl_meta.specs.Committed.{VirtualMap}
 use Rattle.nl_meta.specs.Nodes.{graph_of, pointers_of_inode}
 use Rattle.nl_core.specs.Core.{running_of}
-use Rattle.nl_core.specs.Trees.{CoreRuns}
+use Rattle.nl_core.specs.Trees.{CoreRepresentsTree}
 use Rattle.nl_core.specs.declared.state.Core.{Core}
-use Rattle.nl_volume_list.specs.Walks.{Gives, OnWay, WalkState}
+use Rattle.nl_volume_list.specs.Walks.{GivesItem, OnWay, WalkState}
 use Rattle.nl_volume_list.specs.declared.item.TreeItem.{TreeItem}
 use Rattle.nl_volume_list.specs.declared.item.TreeItem.TheVariants as item
 
@@ -26,7 +26,7 @@ pub record IsOnWay {D : Type 0} (g : Ghosts D) (v : Core D) (walk : WalkState) :
 -- The walk gives the next path of each tree as which the core runs.
 abbrev pub GivesNext : {D : Type 0} → Ghosts D → Core D → WalkState → WalkState → TreeItem → Type 0
 GivesNext g v old new answer =
-    (page_of_stamp : ℕ → Option PageOfStamp) (tree : Tree) → CoreRuns g v page_of_stamp tree → Gives tree old new answer
+    (page_of_stamp : ℕ → Option PageOfStamp) (tree : Tree) → CoreRepresentsTree g v page_of_stamp tree → GivesItem tree old new answer
 
 -- ---- how it begins
 
@@ -45,9 +45,9 @@ pub record GaveAt (graph : Graph) (old new : WalkState) (there : List (List ℕ)
   pub room : new.room ≡ old.room
 
 -- what is told of a file with this record
-abbrev pub TellsFile : VirtualMap → InodeRec → TreeItem → Type 0
-TellsFile pages rec (item.Dir entries) = ⊥
-TellsFile pages rec (item.File size count) = (size ≡ rec.size) × (count ≡ length (pointers_of_inode pages rec))
-TellsFile pages rec item.End = ⊥
-TellsFile pages rec item.Fault = ⊤
-TellsFile pages rec (item.Lost wanted found) = ⊤
+abbrev pub IsItemOfFile : VirtualMap → InodeRec → TreeItem → Type 0
+IsItemOfFile pages rec (item.Dir entries) = ⊥
+IsItemOfFile pages rec (item.File size count) = (size ≡ rec.size) × (count ≡ length (pointers_of_inode pages rec))
+IsItemOfFile pages rec item.End = ⊥
+IsItemOfFile pages rec item.Fault = ⊤
+IsItemOfFile pages rec (item.Lost wanted found) = ⊤

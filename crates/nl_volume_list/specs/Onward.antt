@@ -12,7 +12,7 @@ abbrev pub IsLast : Graph → List (List ℕ) → Type 0
 IsLast graph here = (q : List (List ℕ)) (n : ℕ) → node_reached graph 0 q ≡ Some n → path_cmp here q ≡ Less → ⊥
 
 -- The one comes behind the other, and no path between them.
-pub record IsNext (graph : Graph) (here there : List (List ℕ)) : Type 0 where
+pub record IsNextPath (graph : Graph) (here there : List (List ℕ)) : Type 0 where
   pub behind : path_cmp here there ≡ Less
   pub between : (q : List (List ℕ)) (n : ℕ) → node_reached graph 0 q ≡ Some n → path_cmp here q ≡ Less → path_cmp q there ≡ Less → ⊥
 
@@ -28,8 +28,8 @@ path_to walk to = take to.kept walk.path ++ to.entry.name ∷ []
 pub record LeadsOn (graph : Graph) (walk : WalkState) (to : Onward) : Type 0 where
   pub kept : to.kept ≤ length walk.path
   pub reached : node_reached graph 0 (path_to walk to) ≡ Some to.entry.ino
-  pub next : IsNext graph walk.path (path_to walk to)
+  pub next : IsNextPath graph walk.path (path_to walk to)
 
-abbrev pub GoesOn : Graph → WalkState → Option Onward → Type 0
-GoesOn graph walk None = IsLast graph walk.path
-GoesOn graph walk (Some to) = LeadsOn graph walk to
+abbrev pub StepsOnward : Graph → WalkState → Option Onward → Type 0
+StepsOnward graph walk None = IsLast graph walk.path
+StepsOnward graph walk (Some to) = LeadsOn graph walk to

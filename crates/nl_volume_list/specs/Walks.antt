@@ -6,7 +6,7 @@ use Rattle.nl_tree.specs.Represents.{node_reached}
 use Rattle.nl_tree.specs.Tree.{Tree}
 use Rattle.nl_meta_running.specs.declared.answer.Stop.{Stop}
 use Rattle.nl_meta_running.specs.declared.answer.Stop.TheVariants as stop
-use Rattle.nl_volume_list.specs.Items.{Told, items_behind, items_of}
+use Rattle.nl_volume_list.specs.Items.{PathItem, items_behind, items_of}
 use Rattle.nl_volume_list.specs.declared.item.TreeItem.{TreeItem}
 use Rattle.nl_volume_list.specs.declared.item.TreeItem.TheVariants as item
 
@@ -17,21 +17,21 @@ pub record WalkState : Type 0 where
   pub room : ℕ
 
 -- what is left behind a path; before the root there is no node on the way, and all is left
-abbrev pub left_behind : Tree → List (List ℕ) → List ℕ → List Told
+abbrev pub left_behind : Tree → List (List ℕ) → List ℕ → List PathItem
 left_behind tree path [] = items_of tree
 left_behind tree path (n ∷ nodes) = items_behind path (items_of tree)
 
 -- what the walk has still to give of a tree
-abbrev pub left_of : Tree → WalkState → List Told
-left_of tree walk = left_behind tree walk.path walk.nodes
+abbrev pub still_to_give : Tree → WalkState → List PathItem
+still_to_give tree walk = left_behind tree walk.path walk.nodes
 
 -- A walk gives the first of what was left, and the rest is left then. The end comes where nothing was left.
-abbrev pub Gives : Tree → WalkState → WalkState → TreeItem → Type 0
-Gives tree old new (item.Dir entries) = left_of tree old ≡ (new.path, item.Dir entries) ∷ left_of tree new
-Gives tree old new (item.File size pages) = left_of tree old ≡ (new.path, item.File size pages) ∷ left_of tree new
-Gives tree old new item.End = left_of tree old ≡ []
-Gives tree old new item.Fault = ⊤
-Gives tree old new (item.Lost wanted found) = ⊤
+abbrev pub GivesItem : Tree → WalkState → WalkState → TreeItem → Type 0
+GivesItem tree old new (item.Dir entries) = still_to_give tree old ≡ (new.path, item.Dir entries) ∷ still_to_give tree new
+GivesItem tree old new (item.File size pages) = still_to_give tree old ≡ (new.path, item.File size pages) ∷ still_to_give tree new
+GivesItem tree old new item.End = still_to_give tree old ≡ []
+GivesItem tree old new item.Fault = ⊤
+GivesItem tree old new (item.Lost wanted found) = ⊤
 
 -- A path was given.
 abbrev pub is_path : TreeItem → Bool
@@ -58,9 +58,9 @@ pub record OnWay (graph : Graph) (walk : WalkState) : Type 0 where
   pub reached : (i n : ℕ) → slice_get walk.nodes i ≡ Some n → node_reached graph 0 (take i walk.path) ≡ Some n
 
 -- what is told of a node that is used
-abbrev pub TellsNode : NodeBody → TreeItem → Type 0
-TellsNode body (item.Dir entries) = (es : List (List ℕ × ℕ)) × (body ≡ directory_node es) × (entries ≡ length es)
-TellsNode body (item.File size pages) = (ps : List (ℕ × Pointer)) × (body ≡ file_node size ps) × (pages ≡ length ps)
-TellsNode body item.End = ⊥
-TellsNode body item.Fault = ⊤
-TellsNode body (item.Lost wanted found) = ⊤
+abbrev pub IsItemOfNode : NodeBody → TreeItem → Type 0
+IsItemOfNode body (item.Dir entries) = (es : List (List ℕ × ℕ)) × (body ≡ directory_node es) × (entries ≡ length es)
+IsItemOfNode body (item.File size pages) = (ps : List (ℕ × Pointer)) × (body ≡ file_node size ps) × (pages ≡ length ps)
+IsItemOfNode body item.End = ⊥
+IsItemOfNode body item.Fault = ⊤
+IsItemOfNode body (item.Lost wanted found) = ⊤

@@ -2,8 +2,8 @@ ghost use Rattle.std.specs.Prelude.{◌≡◌, ◌≤◌, IfOk};
 ghost use Rattle.nl_dir.specs.Directory.{IsDirectory};
 ghost use Rattle.nl_meta.specs.Nodes.{entries_of_inode, graph_of};
 ghost use Rattle.nl_meta.specs.Pages.{page_of};
-ghost use Rattle.nl_meta_running.specs.Reading.{Reads, stop_of};
-ghost use Rattle.nl_meta_running.specs.Running.{IsUsed, Runs, RunsOn, running_on};
+ghost use Rattle.nl_meta_running.specs.Reading.{ReadsExplainStop, stop_of};
+ghost use Rattle.nl_meta_running.specs.Running.{IsUsedNode, RunningIsRight, PreservesRunning, running_on};
 ghost use Rattle.nl_volume_list.specs.Entries.{IsLeastOf, LeastBehind, is_behind, is_lesser};
 
 use nl_dir::entry_at;
@@ -25,12 +25,12 @@ pub(crate) fn least_behind<D: VirtualPages>(
     after: &[u8],
 ) -> Result<Option<EntryRec>, Stop>
     requires formed { D.formed device.old }
-    requires runs { Runs D.Counts device.old meta.old }
-    requires used { IsUsed D.Counts device.old meta.old ino }
+    requires runs { RunningIsRight D.Counts device.old meta.old }
+    requires used { IsUsedNode D.Counts device.old meta.old ino }
     ensures formed { D.formed device.new }
     ensures least { IfOk result (LeastBehind (graph_of (D.shape device.old) (running_on D.Counts device.old meta.old)) ino after.now) }
-    ensures kept { RunsOn D.Counts device.old meta.old device.new meta.new }
-    ensures reads { Reads D.Counts device.old device.new (stop_of result) }
+    ensures kept { PreservesRunning D.Counts device.old meta.old device.new meta.new }
+    ensures reads { ReadsExplainStop D.Counts device.old device.new (stop_of result) }
 {
     let rec = node(device, meta, nodes, ino)?;
     match rec.kind {

@@ -2,11 +2,11 @@ ghost use Rattle.std.specs.Prelude.{◌≡◌, ◌≢◌, ◌≤◌, ℕ, [], tr
 ghost use Rattle.nl_core.specs.Core.{IsCore, running_of};
 ghost use Rattle.nl_calls_files.specs.Fits.{IsFileOf};
 ghost use Rattle.nl_calls_steps.specs.Steps.{ReadsOn};
-ghost use Rattle.nl_meta_running.specs.Reading.{Reads, stop_of};
-ghost use Rattle.nl_meta_running.specs.Running.{IsUsed};
-ghost use Rattle.nl_volume_list.specs.Next.{GaveAt, GivesNext, IsOnWay, TellsFile, nodes_of};
-ghost use Rattle.nl_volume_list.specs.Onward.{GoesOn, LeadsOn, path_to};
-ghost use Rattle.nl_volume_list.specs.Walks.{TellsNode, is_path, item_stop};
+ghost use Rattle.nl_meta_running.specs.Reading.{ReadsExplainStop, stop_of};
+ghost use Rattle.nl_meta_running.specs.Running.{IsUsedNode};
+ghost use Rattle.nl_volume_list.specs.Next.{GaveAt, GivesNext, IsOnWay, IsItemOfFile, nodes_of};
+ghost use Rattle.nl_volume_list.specs.Onward.{StepsOnward, LeadsOn, path_to};
+ghost use Rattle.nl_volume_list.specs.Walks.{IsItemOfNode, is_path, item_stop};
 
 use crate::item::TreeItem;
 use crate::places::next_place;
@@ -30,7 +30,7 @@ pub fn next_path<D: MovingPages>(core: &mut Core<D>, walk: &mut TreeWalk) -> Tre
     ensures way { IsOnWay D.Counts core.new walk.new }
     ensures gives { GivesNext D.Counts core.old walk.old walk.new result }
     ensures stays { is_path result ≡ false → walk.new ≡ walk.old }
-    ensures reads { Reads D.Counts core.old.device core.new.device (item_stop result) }
+    ensures reads { ReadsExplainStop D.Counts core.old.device core.new.device (item_stop result) }
 {
     device_stands(&core.device);
     if !walk.has_begun() {
@@ -50,8 +50,8 @@ fn place_of<D: MovingPages>(core: &mut Core<D>, walk: &TreeWalk) -> Result<Optio
     requires begun { walk.now.nodes ≢ [] }
     ensures core { IsCore D.Counts core.new }
     ensures same { ReadsOn D.Counts core.old core.new }
-    ensures place { IfOk result (GoesOn (nodes_of D.Counts core.old) walk.now) }
-    ensures reads { Reads D.Counts core.old.device core.new.device (stop_of result) }
+    ensures place { IfOk result (StepsOnward (nodes_of D.Counts core.old) walk.now) }
+    ensures reads { ReadsExplainStop D.Counts core.old.device core.new.device (stop_of result) }
 {
     device_stands(&core.device);
     let answer = next_place(&mut core.device, &mut core.meta, &core.nodes, walk);
@@ -66,10 +66,10 @@ fn begin<D: MovingPages>(core: &mut Core<D>, walk: &mut TreeWalk) -> TreeItem
     requires before { walk.old.nodes ≡ [] }
     ensures core { IsCore D.Counts core.new }
     ensures same { ReadsOn D.Counts core.old core.new }
-    ensures told { TellsNode (nodes_of D.Counts core.old 0).body result }
+    ensures told { IsItemOfNode (nodes_of D.Counts core.old 0).body result }
     ensures gave { is_path result ≡ true → GaveAt (nodes_of D.Counts core.old) walk.old walk.new [] }
     ensures stays { is_path result ≡ false → walk.new ≡ walk.old }
-    ensures reads { Reads D.Counts core.old.device core.new.device (item_stop result) }
+    ensures reads { ReadsExplainStop D.Counts core.old.device core.new.device (item_stop result) }
 {
     device_stands(&core.device);
     let item = item_at(core, 0);
@@ -88,10 +88,10 @@ fn go_to<D: MovingPages>(core: &mut Core<D>, walk: &mut TreeWalk, to: Onward) ->
     requires leads { LeadsOn (nodes_of D.Counts core.old) walk.old to }
     ensures core { IsCore D.Counts core.new }
     ensures same { ReadsOn D.Counts core.old core.new }
-    ensures told { TellsNode (nodes_of D.Counts core.old to.entry.ino).body result }
+    ensures told { IsItemOfNode (nodes_of D.Counts core.old to.entry.ino).body result }
     ensures gave { is_path result ≡ true → GaveAt (nodes_of D.Counts core.old) walk.old walk.new (path_to walk.old to) }
     ensures stays { is_path result ≡ false → walk.new ≡ walk.old }
-    ensures reads { Reads D.Counts core.old.device core.new.device (item_stop result) }
+    ensures reads { ReadsExplainStop D.Counts core.old.device core.new.device (item_stop result) }
 {
     device_stands(&core.device);
     let item = item_at(core, to.entry.ino);
@@ -105,11 +105,11 @@ fn go_to<D: MovingPages>(core: &mut Core<D>, walk: &mut TreeWalk, to: Onward) ->
 // What stands at a node that is used.
 fn item_at<D: MovingPages>(core: &mut Core<D>, ino: u32) -> TreeItem
     requires core { IsCore D.Counts core.old }
-    requires used { IsUsed D.Counts core.old.device core.old.meta ino }
+    requires used { IsUsedNode D.Counts core.old.device core.old.meta ino }
     ensures core { IsCore D.Counts core.new }
     ensures same { ReadsOn D.Counts core.old core.new }
-    ensures told { TellsNode (nodes_of D.Counts core.old ino).body result }
-    ensures reads { Reads D.Counts core.old.device core.new.device (item_stop result) }
+    ensures told { IsItemOfNode (nodes_of D.Counts core.old ino).body result }
+    ensures reads { ReadsExplainStop D.Counts core.old.device core.new.device (item_stop result) }
 {
     device_stands(&core.device);
     match open_node(core, ino) {
@@ -127,8 +127,8 @@ fn file_item<D: MovingPages>(core: &mut Core<D>, rec: &InodeRec) -> TreeItem
     requires file { (n : ℕ) × IsFileOf D.Counts core.old.device core.old.meta n rec.now }
     ensures core { IsCore D.Counts core.new }
     ensures same { ReadsOn D.Counts core.old core.new }
-    ensures file { TellsFile (running_of D.Counts core.old) rec.now result }
-    ensures reads { Reads D.Counts core.old.device core.new.device (item_stop result) }
+    ensures file { IsItemOfFile (running_of D.Counts core.old) rec.now result }
+    ensures reads { ReadsExplainStop D.Counts core.old.device core.new.device (item_stop result) }
 {
     match count_file(core, rec) {
         CountPages::Pages(pages) => TreeItem::File {

@@ -1,8 +1,8 @@
 ghost use Rattle.std.specs.Prelude.{◌≡◌, ◌≢◌, [], IfOk};
 ghost use Rattle.nl_meta.specs.Nodes.{graph_of};
-ghost use Rattle.nl_meta_running.specs.Reading.{Reads, stop_of};
-ghost use Rattle.nl_meta_running.specs.Running.{Runs, RunsOn, running_on};
-ghost use Rattle.nl_volume_list.specs.Onward.{GoesOn, NoneUnder};
+ghost use Rattle.nl_meta_running.specs.Reading.{ReadsExplainStop, stop_of};
+ghost use Rattle.nl_meta_running.specs.Running.{RunningIsRight, PreservesRunning, running_on};
+ghost use Rattle.nl_volume_list.specs.Onward.{StepsOnward, NoneUnder};
 ghost use Rattle.nl_volume_list.specs.Walks.{OnWay};
 
 use crate::entries::least_behind;
@@ -22,13 +22,13 @@ pub(crate) fn next_place<D: VirtualPages>(
     walk: &TreeWalk,
 ) -> Result<Option<Onward>, Stop>
     requires formed { D.formed device.old }
-    requires runs { Runs D.Counts device.old meta.old }
+    requires runs { RunningIsRight D.Counts device.old meta.old }
     requires begun { walk.now.nodes ≢ [] }
     requires way { OnWay (graph_of (D.shape device.old) (running_on D.Counts device.old meta.old)) walk.now }
     ensures formed { D.formed device.new }
-    ensures place { IfOk result (GoesOn (graph_of (D.shape device.old) (running_on D.Counts device.old meta.old)) walk.now) }
-    ensures kept { RunsOn D.Counts device.old meta.old device.new meta.new }
-    ensures reads { Reads D.Counts device.old device.new (stop_of result) }
+    ensures place { IfOk result (StepsOnward (graph_of (D.shape device.old) (running_on D.Counts device.old meta.old)) walk.now) }
+    ensures kept { PreservesRunning D.Counts device.old meta.old device.new meta.new }
+    ensures reads { ReadsExplainStop D.Counts device.old device.new (stop_of result) }
 {
     let kept = walk.path().len();
     match least_behind(device, meta, nodes, walk.nodes()[kept as usize], b"") {
@@ -46,14 +46,14 @@ fn place_beside<D: VirtualPages>(
     walk: &TreeWalk,
 ) -> Result<Option<Onward>, Stop>
     requires formed { D.formed device.old }
-    requires runs { Runs D.Counts device.old meta.old }
+    requires runs { RunningIsRight D.Counts device.old meta.old }
     requires begun { walk.now.nodes ≢ [] }
     requires way { OnWay (graph_of (D.shape device.old) (running_on D.Counts device.old meta.old)) walk.now }
     requires bare { NoneUnder (graph_of (D.shape device.old) (running_on D.Counts device.old meta.old)) walk.now.path walk.now.path }
     ensures formed { D.formed device.new }
-    ensures place { IfOk result (GoesOn (graph_of (D.shape device.old) (running_on D.Counts device.old meta.old)) walk.now) }
-    ensures kept { RunsOn D.Counts device.old meta.old device.new meta.new }
-    ensures reads { Reads D.Counts device.old device.new (stop_of result) }
+    ensures place { IfOk result (StepsOnward (graph_of (D.shape device.old) (running_on D.Counts device.old meta.old)) walk.now) }
+    ensures kept { PreservesRunning D.Counts device.old meta.old device.new meta.new }
+    ensures reads { ReadsExplainStop D.Counts device.old device.new (stop_of result) }
 {
     let mut kept = walk.path().len();
     while kept > 0 {

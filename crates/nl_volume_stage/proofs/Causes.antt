@@ -2,7 +2,7 @@
 use Rattle.std.proofs.Common.{inl, inr, ⊎_elim, ℕ, ◌+◌, ◌<◌, ◌≤◌, arith}
 use Rattle.std.proofs.lemmas.Bool.{cases_lt}
 use Rattle.nl_field.specs.CrashStates.{Rose, top}
-use Rattle.nl_tree.specs.Causes.{Counts, HasCause, IsSumSince, MayBeWorn, NeverFall, WriteFailed, fault_sum}
+use Rattle.nl_tree.specs.Causes.{Counts, HasCause, IsSumSince, MayBeExhausted, NeverFall, WriteFailed, fault_sum}
 use Rattle.nl_tree.specs.declared.call.Call.{Call}
 use Rattle.nl_tree.specs.declared.reply.FaultReply.{FaultReply}
 use Rattle.nl_tree.specs.declared.reply.FaultReply.TheVariants.{Eio, Erofs, Eworn, Edamaged}
@@ -20,7 +20,7 @@ module _ (opening before now : Counts) (later : NeverFall before now) (since : N
   still_failed (inl rose) = inl (let up = later.write_faults in omega (arith, rose, up))
   still_failed (inr full) = inr (let up = later.write_faults in omega (arith, full, up, most))
 
-  still_worn : now.clock ≤ top → (next_stamp : ℕ) → MayBeWorn opening before next_stamp → MayBeWorn opening now next_stamp
+  still_worn : now.clock ≤ top → (next_stamp : ℕ) → MayBeExhausted opening before next_stamp → MayBeExhausted opening now next_stamp
   still_worn few next_stamp (inl paid) = inl (let c = later.clock in let w = later.write_faults in omega (arith, paid, c, w))
   still_worn few next_stamp (inr (inl full)) = inr (inl (let up = later.clock in omega (arith, full, up, few)))
   still_worn few next_stamp (inr (inr full)) = inr (inr (let up = later.write_faults in omega (arith, full, up, most)))

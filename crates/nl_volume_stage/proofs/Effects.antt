@@ -20,12 +20,12 @@ use Rattle.nl_iface.specs.declared.counts.Counts.{Ghosts}
 use Rattle.nl_meta.proofs.PageProofs.{none as changes_none}
 use Rattle.nl_meta_running.proofs.Holds.{reads-none}
 use Rattle.nl_spec_image.specs.Crash.{Run, with_call, with_sync}
-use Rattle.nl_spec_commits.specs.Trees.{RunsAs}
+use Rattle.nl_spec_commits.specs.Trees.{RepresentsTree}
 use Rattle.nl_core.specs.Calls.{CommitsAll}
 use Rattle.nl_core.specs.Core.{IsCore, running_of}
 use Rattle.nl_core.specs.declared.state.Core.{Core}
 use Rattle.nl_calls_steps.specs.Steps.{Steps}
-use Rattle.nl_spec_crashes.specs.Along.{GoesAlong}
+use Rattle.nl_spec_crashes.specs.Along.{FollowsRun}
 use Rattle.nl_calls_steps.specs.Calls.{MakesTree}
 use Rattle.nl_spec_crashes.specs.Effects.{counted}
 use Rattle.nl_spec_crashes.proofs.Along.{effect_goes_along, sync_goes_along}
@@ -35,9 +35,9 @@ use Rattle.nl_turns.specs.declared.entry.Entry.{Entry}
 use Rattle.nl_turns.specs.declared.entry.SyncMark.{SyncMark}
 use Rattle.nl_turns.specs.declared.entry.SyncMark.TheVariants.{NoSync, At}
 use Rattle.nl_volume_stage.specs.Serving.{counts_of}
-use Rattle.nl_volume_stage.specs.Standing.{MarkHasCause, MomentsRise, Serves, run_of}
+use Rattle.nl_volume_stage.specs.Standing.{FaultReplyHasCause, MomentsRise, Serves, run_of}
 use Rattle.nl_volume_stage.proofs.Causes.{later_then, still_cause, still_failed}
-use Rattle.nl_volume_stage.specs.Turns.{GoesOn}
+use Rattle.nl_volume_stage.specs.Turns.{PreservesCore}
 use Rattle.nl_volume_stage.proofs.Histories.{calls_length, calls_more, effects_more, has_or_last, last_in_range, no_sync, one_call, one_sync, pairs_more, syncs_in_range, syncs_more}
 use Rattle.nl_volume_stage.proofs.Standing.{calls_serve}
 
@@ -100,16 +100,16 @@ module _ {D : Type 0} (g : Ghosts D) (origin : Core D) (o : Opening) (h : List E
   more_effects : effects (h ++ e ∷ []) ≡ effects h + 1
   more_effects = effects_more h e ∙ ap (λ b. effects h + cond b 1 0) effect
 
-  mark_on : (x : Entry) (f : Option FaultReply) → IfSome f (MarkHasCause g.tells o (counts_of g u.device) x) → IfSome f (MarkHasCause g.tells o (counts_of g w.device) x)
+  mark_on : (x : Entry) (f : Option FaultReply) → IfSome f (FaultReplyHasCause g.tells o (counts_of g u.device) x) → IfSome f (FaultReplyHasCause g.tells o (counts_of g w.device) x)
   mark_on x None is = is
   mark_on x (Some fault) is = (is.0, is.1, still_cause (opening_counts o) (counts_of g u.device) (counts_of g w.device) later s.since most.1 most.0 g.tells o.next_stamp is.0 fault is.2)
 
-  mark_new : (f : Option FaultReply) → IfSome f (HasCause g.tells (opening_counts o) (counts_of g w.device) o.next_stamp call) → IfSome f (MarkHasCause g.tells o (counts_of g w.device) e)
+  mark_new : (f : Option FaultReply) → IfSome f (HasCause g.tells (opening_counts o) (counts_of g w.device) o.next_stamp call) → IfSome f (FaultReplyHasCause g.tells o (counts_of g w.device) e)
   mark_new None is = is
   mark_new (Some fault) is = (call, call_is, is)
 
   -- with what the run and its syncs are then
-  one_more : IsKnown o e → GoesAlong g origin o.clock (run_of o (h ++ e ∷ [])) (counted w) → IfSome (sync_of e.synced) (λ x. IsSyncInRange o (h ++ e ∷ []) (length h) e.line x)
+  one_more : IsKnown o e → FollowsRun g origin o.clock (run_of o (h ++ e ∷ [])) (counted w) → IfSome (sync_of e.synced) (λ x. IsSyncInRange o (h ++ e ∷ []) (length h) e.line x)
       → MomentsRise o (syncs_of (h ++ e ∷ [])) w.moment (g.clock w.device) → Serves g origin o (h ++ e ∷ []) (counted w) (saturated (done + 1))
   one_more known along range moments = record {
     few = s.few;
@@ -126,7 +126,7 @@ module _ {D : Type 0} (g : Ghosts D) (origin : Core D) (o : Opening) (h : List E
           subst (IsSumSince (opening_counts o) (counts_of g w.device)) (sym same_stopped) (fault_laws.stays (opening_counts o) (counts_of g u.device) (counts_of g w.device) u.stopped r.1 later),
         );
     marks = λ x has. ⊎_elim (λ was. mark_on x (fault_of x.fault) (s.marks x was))
-        (λ is. subst (λ (y : Entry). IfSome (fault_of y.fault) (MarkHasCause g.tells o (counts_of g w.device) y)) is (mark_new (fault_of e.fault) cause))
+        (λ is. subst (λ (y : Entry). IfSome (fault_of y.fault) (FaultReplyHasCause g.tells o (counts_of g w.device) y)) is (mark_new (fault_of e.fault) cause))
         (has_or_last h e x has);
     syncs = syncs_in_range o h e s.syncs range;
     moments = moments;
@@ -161,13 +161,13 @@ module _ {D : Type 0} (g : Ghosts D) (origin : Core D) (o : Opening) (h : List E
 
     pub effect_serves : Serves g origin o (h ++ e ∷ []) (counted w) (saturated (done + 1))
     effect_serves = one_more known_effect
-        (subst (λ (r : Run). GoesAlong g origin o.clock r (counted w)) (sym run_is) (effect_goes_along g u (counted w) (call, fault_of e.fault) origin o.clock (run_of o h) (step_takes_effect g u w (call, fault_of e.fault) volume s.core step makes) s.along))
+        (subst (λ (r : Run). FollowsRun g origin o.clock r (counted w)) (sym run_is) (effect_goes_along g u (counted w) (call, fault_of e.fault) origin o.clock (run_of o h) (step_takes_effect g u w (call, fault_of e.fault) volume s.core step makes) s.along))
         (subst (λ (m : SyncMark). IfSome (sync_of m) (λ x. IsSyncInRange o (h ++ e ∷ []) (length h) e.line x)) (sym unsynced) tt)
         (subst (λ xs. MomentsRise o xs w.moment (g.clock w.device)) (ap (λ (r : Run). r.syncs) (sym run_is)) moments_on)
 
 -- ---- a sync
 
-module _ {D : Type 0} (g : Ghosts D) (origin : Core D) (o : Opening) (h : List Entry) (u b : Core D) (done number : ℕ) (e : Entry) (s : Serves g origin o h u done) (c : GoesOn g u b) (commits : CommitsAll g u b number) (volume : IsVolumeShape (g.shape b.device))
+module _ {D : Type 0} (g : Ghosts D) (origin : Core D) (o : Opening) (h : List Entry) (u b : Core D) (done number : ℕ) (e : Entry) (s : Serves g origin o h u done) (c : PreservesCore g u b) (commits : CommitsAll g u b number) (volume : IsVolumeShape (g.shape b.device))
     (effect : is_effect e ≡ true) (at : call_at o.lines e.line ≡ Some Sync) (whole : fault_of e.fault ≡ None) (synced : e.synced ≡ At b.committed b.moment) where
   abbrev pub point : SyncPoint
   point = record { upto = b.committed; moment = b.moment }
@@ -185,7 +185,7 @@ module _ {D : Type 0} (g : Ghosts D) (origin : Core D) (o : Opening) (h : List E
       λ i. record { shape = o.shape; count = o.count; tree = o.tree; calls = calls i; syncs = syncs i }
 
   same_tree : MakesTree g b b (Sync, fault_of e.fault)
-  same_tree tells page_of_stamp tree runs = subst (RunsAs (g.shape b.device) (running_of g b) page_of_stamp) (sym (sync_leaves (g.shape b.device) tree (fault_of e.fault))) runs.runs
+  same_tree tells page_of_stamp tree runs = subst (RepresentsTree (g.shape b.device) (running_of g b) page_of_stamp) (sym (sync_leaves (g.shape b.device) tree (fault_of e.fault))) runs.runs
 
   known_sync : IsKnown o e
   known_sync = record {
@@ -215,7 +215,7 @@ module _ {D : Type 0} (g : Ghosts D) (origin : Core D) (o : Opening) (h : List E
   pub sync_serves : Serves g origin o (h ++ e ∷ []) (counted b) (saturated (done + 1))
   sync_serves = one_more g origin o h b b done e Sync serves_then c.core (steps_none g b) effect at (subst (λ f. IfSome f (HasCause g.tells (opening_counts o) (counts_of g b.device) o.next_stamp Sync)) (sym whole) tt) (c.counts.clock, c.counts.write_faults)
       known_sync
-      (subst (λ (r : Run). GoesAlong g origin o.clock r (counted b)) (sym sync_run)
+      (subst (λ (r : Run). FollowsRun g origin o.clock r (counted b)) (sym sync_run)
       (effect_goes_along g b (counted b) (Sync, fault_of e.fault) origin o.clock (with_sync (run_of o h) point) (step_takes_effect g b b (Sync, fault_of e.fault) volume c.core (steps_none g b) same_tree)
       (sync_goes_along g c.most number u b origin o.clock (run_of o h) c.goes commits s.along)))
       (subst (λ (x : Option SyncPoint). IfSome x (λ y. IsSyncInRange o (h ++ e ∷ []) (length h) e.line y)) (sym has_point) (last_in_range o h e point upto_is (let few = s.few in omega (arith, few)) effect))

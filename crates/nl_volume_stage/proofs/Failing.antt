@@ -15,7 +15,7 @@ use Rattle.nl_flight.specs.declared.page.FlightPage.{FlightPage}
 use Rattle.nl_iface.specs.Calls.{StoresPages}
 use Rattle.nl_iface.specs.Device.{IsVolumeShape}
 use Rattle.nl_iface.specs.declared.counts.Counts.{Ghosts}
-use Rattle.nl_core.specs.Programming.{HasLine, line_of}
+use Rattle.nl_core.specs.Programming.{HasLineOrNone, line_of}
 use Rattle.nl_core.specs.Lines.{notes_fault}
 use Rattle.nl_core.specs.declared.state.Core.{Core}
 use Rattle.nl_core.proofs.Lines.{carried_alike}
@@ -25,14 +25,14 @@ use Rattle.nl_turns.specs.Served.{IsLineOf}
 use Rattle.nl_turns.specs.declared.entry.Entry.{Entry}
 use Rattle.nl_volume_stage.specs.Serving.{counts_of}
 use Rattle.nl_calls_write.specs.Calls.{IsStagedPage}
-use Rattle.nl_volume_stage.specs.Standing.{FlightStands, IsInFlight, MarkHasCause, NumbersDiffer, StandsFor}
+use Rattle.nl_volume_stage.specs.Standing.{FlightIsOfLines, IsInFlight, FaultReplyHasCause, NumbersDiffer, RepresentsHistory}
 use Rattle.nl_volume_stage.specs.Turns.{AreCounts, FailsSince}
 use Rattle.nl_volume_stage.proofs.Lines.{line_cases, one_call_of, other_with, own_with}
 use Rattle.nl_calls_steps.proofs.LeavesTree.{step_goes}
 use Rattle.nl_volume_stage.proofs.Standing.{calls_stand_with}
 
-module _ {D : Type 0} (g : Ghosts D) (origin : Core D) (o : Opening) (h : List Entry) (start now : Core D) (done : ℕ) (a : StandsFor g origin o h start done) (b : StandsFor g origin o h now done) (f : FailsSince g start now)
-    (worker line : ℕ) (call : Call) (known : worker < 8) (of : IsLineOf o worker line call) (has : HasLine now.flight worker line) (volume : IsVolumeShape (g.shape now.device)) (stores : g.tells → StoresPages g now.device) (most : AreCounts g now) where
+module _ {D : Type 0} (g : Ghosts D) (origin : Core D) (o : Opening) (h : List Entry) (start now : Core D) (done : ℕ) (a : RepresentsHistory g origin o h start done) (b : RepresentsHistory g origin o h now done) (f : FailsSince g start now)
+    (worker line : ℕ) (call : Call) (known : worker < 8) (of : IsLineOf o worker line call) (has : HasLineOrNone now.flight worker line) (volume : IsVolumeShape (g.shape now.device)) (stores : g.tells → StoresPages g now.device) (most : AreCounts g now) where
   abbrev n : ℕ
   n = fault_sum (counts_of g now.device)
 
@@ -76,7 +76,7 @@ module _ {D : Type 0} (g : Ghosts D) (origin : Core D) (o : Opening) (h : List E
   sum_is : IsSumSince (opening_counts o) (counts_of g now.device) n
   sum_is = fault_laws.cause (opening_counts o) (counts_of g start.device) (counts_of g now.device) a.serves.since f.later f.rose
 
-  flight_with : FlightStands g o v.device v.flight
+  flight_with : FlightIsOfLines g o v.device v.flight
   flight_with w = by (cases_eq w worker)
     where
       here : IsInFlight g o now.device worker z
@@ -87,7 +87,7 @@ module _ {D : Type 0} (g : Ghosts D) (origin : Core D) (o : Opening) (h : List E
       by (inr far) = subst (λ (x : InFlight). ((x.line ≡ 0) × (x.fault ≡ 0)) ⊎ IsInFlight g o now.device w x) (sym (others w far)) (b.flight w)
 
   -- an earlier number is below it, or it is the greatest
-  above_mark : (e : Entry) (r : Option FaultReply) (m : ℕ) → IfSome r (MarkHasCause g.tells o (counts_of g start.device) e) → eio_of r ≡ Some m → n ≡ m → m ≡ top
+  above_mark : (e : Entry) (r : Option FaultReply) (m : ℕ) → IfSome r (FaultReplyHasCause g.tells o (counts_of g start.device) e) → eio_of r ≡ Some m → n ≡ m → m ≡ top
   above_mark e None m is at same = cc at
   above_mark e (Some (Eio k)) m is at same = let eq : k ≡ m = cc at in ⊎_elim (λ low. absurd (let off : ⊥ = omega (arith, low, eq, same) in off)) (λ end. sym same ∙ end)
       (fault_laws.above (opening_counts o) (counts_of g start.device) (counts_of g now.device) k is.2 f.later f.rose)
@@ -134,7 +134,7 @@ module _ {D : Type 0} (g : Ghosts D) (origin : Core D) (o : Opening) (h : List E
           let two : (of_worker v.flight w').fault ≡ (of_worker now.flight w').fault = ap (λ (x : InFlight). x.fault) (others w' off') in
           one ∙ b.numbers.apart w w' far (λ none. some (one ∙ none)) (sym one ∙ (same ∙ two))
 
-  pub failure_noted : IsFlight v.flight → StandsFor g origin o h v done
+  pub failure_noted : IsFlight v.flight → RepresentsHistory g origin o h v done
   failure_noted lines = calls_stand_with g origin o h now v done b
       (record {
         on = record {

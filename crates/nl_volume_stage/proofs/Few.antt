@@ -16,7 +16,7 @@ use Rattle.nl_iface.specs.declared.counts.Counts.{Ghosts}
 use Rattle.nl_core.specs.Core.{IsCore}
 use Rattle.nl_core.specs.declared.state.Core.{Core}
 use Rattle.nl_turns.specs.History.{Opening}
-use Rattle.nl_volume_stage.specs.Standing.{FlightStands, IsInFlight, first_whole}
+use Rattle.nl_volume_stage.specs.Standing.{FlightIsOfLines, IsInFlight, first_whole}
 use Rattle.nl_volume_stage.proofs.Given.{fill_whole, whole_parts, write_whole}
 
 past : (from len index place : ℕ) → len ≤ 65536 → index ≡ div_ceil from 4096 + place → is_whole from len index ≡ true → place < 16
@@ -42,7 +42,7 @@ place_below (ListCall path) index place few is some = absurd (cc some)
 place_below Sync index place few is some = absurd (cc some)
 place_below Clean index place few is some = absurd (cc some)
 
-pub few_staged : {D : Type 0} (g : Ghosts D) (o : Opening) (v : Core D) → IsCore g v → FlightStands g o v.device v.flight → (worker : ℕ) → length (of_worker v.flight worker).pages ≤ 16
+pub few_staged : {D : Type 0} (g : Ghosts D) (o : Opening) (v : Core D) → IsCore g v → FlightIsOfLines g o v.device v.flight → (worker : ℕ) → length (of_worker v.flight worker).pages ≤ 16
 few_staged g o v core stands worker = ⊎_elim (λ past. by past (stands worker)) (λ low. low) (cases_lt 16 (length (of_worker v.flight worker).pages))
   where
     by : 16 < length (of_worker v.flight worker).pages → (((of_worker v.flight worker).line ≡ 0) × ((of_worker v.flight worker).fault ≡ 0)) ⊎ IsInFlight g o v.device worker (of_worker v.flight worker) → length (of_worker v.flight worker).pages ≤ 16

@@ -17,8 +17,8 @@ use Rattle.nl_iface.specs.declared.counts.Counts.{Ghosts}
 use Rattle.nl_meta.specs.Consistent.{PageOfStamp}
 use Rattle.nl_core.specs.Calls.{KeepsLines}
 use Rattle.nl_core.specs.Core.{IsCore, names_of}
-use Rattle.nl_core.specs.Goes.{Goes, RunsOnAs}
-use Rattle.nl_core.specs.Trees.{CoreRuns}
+use Rattle.nl_core.specs.Goes.{PreservesVolume, PreservesTree}
+use Rattle.nl_core.specs.Trees.{CoreRepresentsTree}
 use Rattle.nl_core.specs.declared.state.Core.{Core}
 use Rattle.nl_core.proofs.Lines.{of_line}
 use Rattle.nl_volume_stage.proofs.Alike.{line_alike}
@@ -26,7 +26,7 @@ use Rattle.nl_turns.specs.History.{Opening, opening_counts}
 use Rattle.nl_turns.specs.Served.{IsLineOf}
 use Rattle.nl_volume_stage.specs.Serving.{counts_of}
 use Rattle.nl_calls_write.specs.Calls.{IsStagedPage}
-use Rattle.nl_volume_stage.specs.Standing.{FlightStands, IsInFlight}
+use Rattle.nl_volume_stage.specs.Standing.{FlightIsOfLines, IsInFlight}
 use Rattle.nl_volume_stage.specs.Turns.{FaultsStay}
 
 -- ---- members
@@ -78,13 +78,13 @@ module _ {D : Type 0} (g : Ghosts D) (v : Core D) (core : IsCore g v) where
 -- Counts of the medium do not fall, and where the core ran as a tree it runs as one, with each page that was programmed before.
 pub record KeepsPages {D : Type 0} (g : Ghosts D) (u v : Core D) : Type 0 where
   pub later : NeverFall (counts_of g u.device) (counts_of g v.device)
-  pub runs : g.tells → (page_of_stamp : ℕ → Option PageOfStamp) (tree : Tree) → CoreRuns g u page_of_stamp tree → (t : Tree) × RunsOnAs g v page_of_stamp t
+  pub runs : g.tells → (page_of_stamp : ℕ → Option PageOfStamp) (tree : Tree) → CoreRepresentsTree g u page_of_stamp tree → (t : Tree) × PreservesTree g v page_of_stamp t
 
-pub goes_keeps : {D : Type 0} (g : Ghosts D) (n : ℕ) (u v : Core D) → Goes g n u v → KeepsPages g u v
+pub goes_keeps : {D : Type 0} (g : Ghosts D) (n : ℕ) (u v : Core D) → PreservesVolume g n u v → KeepsPages g u v
 goes_keeps g n u v goes = record { later = record { clock = goes.clock; read_faults = goes.reads; write_faults = goes.writes }; runs = λ tells page_of_stamp tree at. (tree, goes.runs tells page_of_stamp tree at) }
 
 -- A page in flight keeps its bytes, wherever it is.
-module _ {D : Type 0} (g : Ghosts D) (u v : Core D) (before : IsCore g u) (after : IsCore g v) (keeps : KeepsPages g u v) (tells : g.tells) (page_of_stamp : ℕ → Option PageOfStamp) (tree : Tree) (at : CoreRuns g u page_of_stamp tree) where
+module _ {D : Type 0} (g : Ghosts D) (u v : Core D) (before : IsCore g u) (after : IsCore g v) (keeps : KeepsPages g u v) (tells : g.tells) (page_of_stamp : ℕ → Option PageOfStamp) (tree : Tree) (at : CoreRepresentsTree g u page_of_stamp tree) where
   pub same_bytes : (x y : Tag × Pointer) → Has (carried u.flight) x → Has (carried v.flight) y → y.1.stamp ≡ x.1.stamp → g.bytes v.device (place_of (names_of g v) y.1) ≡ g.bytes u.device (place_of (names_of g u) x.1)
   same_bytes x y was is same =
       let k = (keeps.runs tells page_of_stamp tree at).1 in
@@ -113,7 +113,7 @@ module _ (was now : InFlight) (alike : nameless_line now ≡ nameless_line was) 
 
 -- ---- what is in flight stands on
 
-module _ {D : Type 0} (g : Ghosts D) (o : Opening) (u v : Core D) (before : IsCore g u) (after : IsCore g v) (keeps : KeepsPages g u v) (runs : g.tells → (page_of_stamp : ℕ → Option PageOfStamp) × (tree : Tree) × CoreRuns g u page_of_stamp tree) where
+module _ {D : Type 0} (g : Ghosts D) (o : Opening) (u v : Core D) (before : IsCore g u) (after : IsCore g v) (keeps : KeepsPages g u v) (runs : g.tells → (page_of_stamp : ℕ → Option PageOfStamp) × (tree : Tree) × CoreRepresentsTree g u page_of_stamp tree) where
   -- a page that was staged is so, under the name that it has now
   pub staged_on : (worker worker' i i' : ℕ) (call : Call) (place : ℕ) (p page : FlightPage) → slice_get (of_worker u.flight worker).pages i ≡ Some p → slice_get (of_worker v.flight worker').pages i' ≡ Some page → page.index ≡ p.index → page.tag ≡ p.tag
       → page.at.stamp ≡ p.at.stamp → IsStagedPage g u.device call place p → IsStagedPage g v.device call place page
@@ -147,7 +147,7 @@ module _ {D : Type 0} (g : Ghosts D) (o : Opening) (u v : Core D) (before : IsCo
   one_on worker alike (inr is) = inr (line_on worker alike is)
 
   -- where all lines are those of before but for names
-  pub flight_on : KeepsLines u v → FlightStands g o u.device u.flight → FlightStands g o v.device v.flight
+  pub flight_on : KeepsLines u v → FlightIsOfLines g o u.device u.flight → FlightIsOfLines g o v.device v.flight
   flight_on same stands worker = one_on worker (line_alike u.flight v.flight worker same) (stands worker)
 
 pub faults_on : {D : Type 0} (u v : Core D) → KeepsLines u v → FaultsStay u.flight v.flight

@@ -9,7 +9,7 @@ use Rattle.nl_field.specs.declared.pointer.Tag.{Tag}
 use Rattle.nl_tree.specs.Event.{is_whole, page_given}
 use Rattle.nl_tree.specs.declared.call.Call.{Call}
 use Rattle.nl_tree.specs.declared.call.Call.TheVariants.{Mkdir, Rmdir, Create, Unlink, Rename, Write, Fill, Read, Truncate, Stat, List as ListCall, Sync, Clean}
-use Rattle.nl_volume_stage.specs.Staging.{IfPage, IsNext}
+use Rattle.nl_volume_stage.specs.Staging.{IfPage, IsNextTag}
 use Rattle.nl_volume_stage.specs.declared.next.Next.{Next}
 use Rattle.nl_volume_stage.specs.declared.next.Next.TheVariants as next
 
@@ -58,11 +58,11 @@ if_page next.Whole P Q step is = is
 if_page (next.Lost w f) P Q step is = is
 if_page next.Fault P Q step is = is
 
-pub next_write : (call : Call) (path : List (List ℕ)) (from : ℕ) (bytes : List ℕ) (place : ℕ) (tag : Tag) → call ≡ Write path from bytes → (tag.index ≡ div_ceil from 4096 + place) × IsTrue (is_whole from (length bytes) tag.index) → IsNext call place tag
-next_write call path from bytes place tag is at = subst (λ c. IsNext c place tag) (sym is) (record { index = at.0; whole = ap is_some (write_given path from bytes tag.index at.1) })
+pub next_write : (call : Call) (path : List (List ℕ)) (from : ℕ) (bytes : List ℕ) (place : ℕ) (tag : Tag) → call ≡ Write path from bytes → (tag.index ≡ div_ceil from 4096 + place) × IsTrue (is_whole from (length bytes) tag.index) → IsNextTag call place tag
+next_write call path from bytes place tag is at = subst (λ c. IsNextTag c place tag) (sym is) (record { index = at.0; whole = ap is_some (write_given path from bytes tag.index at.1) })
 
-pub next_fill : (call : Call) (path : List (List ℕ)) (from len byte place : ℕ) (tag : Tag) → call ≡ Fill path from len byte → (tag.index ≡ div_ceil from 4096 + place) × IsTrue (is_whole from len tag.index) → IsNext call place tag
-next_fill call path from len byte place tag is at = subst (λ c. IsNext c place tag) (sym is) (record { index = at.0; whole = ap is_some (fill_given path from len byte tag.index at.1) })
+pub next_fill : (call : Call) (path : List (List ℕ)) (from len byte place : ℕ) (tag : Tag) → call ≡ Fill path from len byte → (tag.index ≡ div_ceil from 4096 + place) × IsTrue (is_whole from len tag.index) → IsNextTag call place tag
+next_fill call path from len byte place tag is at = subst (λ c. IsNextTag c place tag) (sym is) (record { index = at.0; whole = ap is_some (fill_given path from len byte tag.index at.1) })
 
 -- ---- pages that are full
 

@@ -19,15 +19,15 @@ use Rattle.nl_iface.specs.declared.counts.Counts.{Ghosts}
 use Rattle.nl_meta.specs.Consistent.{PageOfStamp}
 use Rattle.nl_core.specs.Core.{IsCore, names_of}
 use Rattle.nl_core.specs.Dropping.{DropsLine}
-use Rattle.nl_core.specs.Goes.{Goes}
-use Rattle.nl_core.specs.Programming.{HasLine, PutsInFlight, behind, line_of, with_page}
-use Rattle.nl_core.specs.Trees.{CoreRuns}
+use Rattle.nl_core.specs.Goes.{PreservesVolume}
+use Rattle.nl_core.specs.Programming.{HasLineOrNone, PutsInFlight, behind, line_of, with_page}
+use Rattle.nl_core.specs.Trees.{CoreRepresentsTree}
 use Rattle.nl_core.specs.declared.state.Core.{Core}
 use Rattle.nl_turns.specs.History.{Opening, opening_counts}
 use Rattle.nl_turns.specs.Served.{IsLineOf}
 use Rattle.nl_volume_stage.specs.Serving.{counts_of}
 use Rattle.nl_calls_write.specs.Calls.{IsStagedPage}
-use Rattle.nl_volume_stage.specs.Standing.{FlightStands, IsInFlight, first_whole}
+use Rattle.nl_volume_stage.specs.Standing.{FlightIsOfLines, IsInFlight, first_whole}
 use Rattle.nl_volume_stage.specs.Turns.{FaultsStay}
 use Rattle.nl_volume_stage.proofs.Histories.{at_before, at_last}
 use Rattle.nl_volume_stage.proofs.Alike.{line_alike}
@@ -48,7 +48,7 @@ one_call_of o worker worker' line call call' is is' =
     sym is.found.3 ∙ (ap (λ (l : Line). l.call) same ∙ is'.found.3)
 
 -- what the line is: one of before, or a new one
-pub line_cases : (flight : List InFlight) (worker line : ℕ) → HasLine flight worker line → (((of_worker flight worker).line ≡ 0) × (line_of flight worker line ≡ begun line)) ⊎ (((of_worker flight worker).line ≡ line) × ((of_worker flight worker).line ≢ 0) × (line_of flight worker line ≡ of_worker flight worker))
+pub line_cases : (flight : List InFlight) (worker line : ℕ) → HasLineOrNone flight worker line → (((of_worker flight worker).line ≡ 0) × (line_of flight worker line ≡ begun line)) ⊎ (((of_worker flight worker).line ≡ line) × ((of_worker flight worker).line ≢ 0) × (line_of flight worker line ≡ of_worker flight worker))
 line_cases flight worker line has = by (cases_eq (of_worker flight worker).line 0)
   where
     by : ((of_worker flight worker).line ≡ 0) ⊎ ((of_worker flight worker).line ≢ 0)
@@ -56,7 +56,7 @@ line_cases flight worker line has = by (cases_eq (of_worker flight worker).line 
     by (inl none) = inl (none, cond-true ((of_worker flight worker).line == 0) (begun line) (of_worker flight worker) (eq-eqb (of_worker flight worker).line 0 none))
     by (inr some) = inr (⊎_elim (λ none. absurd (some none)) (λ is. is) has, some, cond-false ((of_worker flight worker).line == 0) (begun line) (of_worker flight worker) (ne_eqb (of_worker flight worker).line 0 some))
 
-module _ {D : Type 0} (g : Ghosts D) (o : Opening) (n : ℕ) (u v : Core D) (before : IsCore g u) (after : IsCore g v) (goes : Goes g n u v) (runs : g.tells → (page_of_stamp : ℕ → Option PageOfStamp) × (tree : Tree) × CoreRuns g u page_of_stamp tree) (worker : ℕ) (known : worker < 8) where
+module _ {D : Type 0} (g : Ghosts D) (o : Opening) (n : ℕ) (u v : Core D) (before : IsCore g u) (after : IsCore g v) (goes : PreservesVolume g n u v) (runs : g.tells → (page_of_stamp : ℕ → Option PageOfStamp) × (tree : Tree) × CoreRepresentsTree g u page_of_stamp tree) (worker : ℕ) (known : worker < 8) where
   in_u : worker < length u.flight
   in_u = let eight = before.flight.eight in omega (arith, known, eight)
 
@@ -69,7 +69,7 @@ module _ {D : Type 0} (g : Ghosts D) (o : Opening) (n : ℕ) (u v : Core D) (bef
     stays : (w : ℕ) → w ≢ worker → of_worker v.flight w ≡ of_worker u.flight w
     stays w far = ap (λ (f : List InFlight). of_worker f w) d.flight ∙ other_with u.flight worker w (begun 0) far
 
-    pub dropped_stands : FlightStands g o u.device u.flight → FlightStands g o v.device v.flight
+    pub dropped_stands : FlightIsOfLines g o u.device u.flight → FlightIsOfLines g o v.device v.flight
     dropped_stands stands w = by (cases_eq w worker)
       where
         by : (w ≡ worker) ⊎ (w ≢ worker) → (((of_worker v.flight w).line ≡ 0) × ((of_worker v.flight w).fault ≡ 0)) ⊎ IsInFlight g o v.device w (of_worker v.flight w)
@@ -85,8 +85,8 @@ module _ {D : Type 0} (g : Ghosts D) (o : Opening) (n : ℕ) (u v : Core D) (bef
 
   -- ---- a page is put behind the others of a line
 
-  module _ (line : ℕ) (tag : Tag) (main : List ℕ) (call : Call) (p : PutsInFlight g worker line tag main u v) (has : HasLine u.flight worker line) (of : IsLineOf o worker line call)
-      (index : tag.index ≡ first_whole call + length (of_worker u.flight worker).pages) (given : page_given call tag.index ≡ Some main) (stands : FlightStands g o u.device u.flight) where
+  module _ (line : ℕ) (tag : Tag) (main : List ℕ) (call : Call) (p : PutsInFlight g worker line tag main u v) (has : HasLineOrNone u.flight worker line) (of : IsLineOf o worker line call)
+      (index : tag.index ≡ first_whole call + length (of_worker u.flight worker).pages) (given : page_given call tag.index ≡ Some main) (stands : FlightIsOfLines g o u.device u.flight) where
     abbrev put : InFlight
     put = behind (line_of u.flight worker line) tag p.at
 
@@ -173,7 +173,7 @@ module _ {D : Type 0} (g : Ghosts D) (o : Opening) (n : ℕ) (u v : Core D) (bef
             (λ (f : IsInFlight g o u.device worker (of_worker u.flight worker)). subst (IsSumSince (opening_counts o) (counts_of g v.device)) (sym was) (fault_laws.stays (opening_counts o) (counts_of g u.device) (counts_of g v.device) (of_worker u.flight worker).fault (f.fault (λ none. some (was ∙ none))) (goes_keeps g n u v goes).later))
             (stands worker)
 
-    pub put_stands : FlightStands g o v.device v.flight
+    pub put_stands : FlightIsOfLines g o v.device v.flight
     put_stands w = by (cases_eq w worker)
       where
         here_stands : IsInFlight g o v.device worker now
@@ -195,7 +195,7 @@ module _ {D : Type 0} (g : Ghosts D) (o : Opening) (n : ℕ) (u v : Core D) (bef
 
 -- ---- the pages of a worker's line are those that were staged for its call
 
-pub staged_for : {D : Type 0} (g : Ghosts D) (o : Opening) (v : Core D) (worker line : ℕ) (call : Call) → IsCore g v → FlightStands g o v.device v.flight → HasLine v.flight worker line → IsLineOf o worker line call → (place : ℕ) (q : FlightPage)
+pub staged_for : {D : Type 0} (g : Ghosts D) (o : Opening) (v : Core D) (worker line : ℕ) (call : Call) → IsCore g v → FlightIsOfLines g o v.device v.flight → HasLineOrNone v.flight worker line → IsLineOf o worker line call → (place : ℕ) (q : FlightPage)
     → slice_get (of_worker v.flight worker).pages place ≡ Some q → IsStagedPage g v.device call place q
 staged_for g o v worker line call core stands has of place q at = by (stands worker)
   where

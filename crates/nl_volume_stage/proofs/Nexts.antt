@@ -31,10 +31,10 @@ use Rattle.nl_namespace.specs.declared.answer.Look.{Look}
 use Rattle.nl_namespace.specs.declared.answer.Look.TheVariants as look
 use Rattle.nl_spec_image.specs.Stands.{bytes_for}
 use Rattle.nl_spec_image.proofs.GraphOfPages.{node_is}
-use Rattle.nl_spec_commits.specs.Trees.{RunsAs}
+use Rattle.nl_spec_commits.specs.Trees.{RepresentsTree}
 use Rattle.nl_core.specs.Core.{IsCore, running_of}
 use Rattle.nl_core.specs.Dropping.{DropsLine}
-use Rattle.nl_core.specs.Programming.{HasLine}
+use Rattle.nl_core.specs.Programming.{HasLineOrNone}
 use Rattle.nl_core.specs.declared.state.Core.{Core}
 use Rattle.nl_calls_steps.specs.Finding.{nodes_of}
 use Rattle.nl_calls_steps.specs.Steps.{ReadsOn}
@@ -45,8 +45,8 @@ use Rattle.nl_turns.specs.Served.{IsLineOf}
 use Rattle.nl_turns.specs.declared.entry.Entry.{Entry}
 use Rattle.nl_calls_bytes.specs.Ranges.{from_of, len_of, path_of}
 use Rattle.nl_volume_stage.specs.Serving.{to_stage_of}
-use Rattle.nl_volume_stage.specs.Staging.{HasFile, IsNext, IsNextAt, IsNextIn, PassesOn, StagesFirst, StagesOn, TellsLeft, staged_indexes}
-use Rattle.nl_volume_stage.specs.Standing.{FlightStands, IsInFlight, StandsFor, first_whole}
+use Rattle.nl_volume_stage.specs.Staging.{FileIsAt, IsNextTag, IsNextAt, IsNextIn, PassesOn, StagesFirst, StagesOn, TellsLeft, staged_indexes}
+use Rattle.nl_volume_stage.specs.Standing.{FlightIsOfLines, IsInFlight, RepresentsHistory, first_whole}
 use Rattle.nl_volume_stage.specs.declared.next.Next.{Next}
 use Rattle.nl_volume_stage.specs.declared.next.Next.TheVariants as next
 use Rattle.nl_volume_stage.proofs.Few.{few_staged}
@@ -56,7 +56,7 @@ use Rattle.nl_volume_stage.proofs.Lines.{one_call_of, own_with}
 -- ---- where a path leads
 
 module _ (law : LooksInTree) {D : Type 0} (g : Ghosts D) (u : Core D) (path : List (List ℕ)) where
-  module _ (page_of_stamp : ℕ → Option PageOfStamp) (tree : Tree) (runs : RunsAs (g.shape u.device) (running_of g u) page_of_stamp tree) where
+  module _ (page_of_stamp : ℕ → Option PageOfStamp) (tree : Tree) (runs : RepresentsTree (g.shape u.device) (running_of g u) page_of_stamp tree) where
     in_tree : (answer : Look) → Looks (nodes_of g u) path answer → IsInTree (bytes_for page_of_stamp) (nodes_of g u) tree path answer
     in_tree answer looks = law (bytes_for page_of_stamp) (nodes_of g u) tree path answer runs.represents.depicts runs.represents.is_tree.root looks
 
@@ -70,10 +70,10 @@ module _ (law : LooksInTree) {D : Type 0} (g : Ghosts D) (u : Core D) (path : Li
         ∙ (ap (λ (x : GraphNode). node_of (bytes_for page_of_stamp) x.body) (node_is (g.shape u.device) (running_of g u) n rec is)
         ∙ ap (λ (q : Kind). node_of (bytes_for page_of_stamp) (body_of (running_of g u) rec q)) kind)
 
-  pub none_missing : Looks (nodes_of g u) path look.Missing → HasFile g u path false
+  pub none_missing : Looks (nodes_of g u) path look.Missing → FileIsAt g u path false
   none_missing looks page_of_stamp tree runs = ap is_file (in_tree page_of_stamp tree runs look.Missing looks).1
 
-  pub none_refused : (refusal : Refusal) → Looks (nodes_of g u) path (look.No refusal) → HasFile g u path false
+  pub none_refused : (refusal : Refusal) → Looks (nodes_of g u) path (look.No refusal) → FileIsAt g u path false
   none_refused refusal looks page_of_stamp tree runs = refused_file page_of_stamp tree runs refusal looks (node_reached (nodes_of g u) 0 path) refl
 
   -- what is next of the node to which it leads
@@ -101,11 +101,11 @@ staged_dropped g worker line u v core known some far d =
     (other_line (of_worker v.flight worker) line (λ is. let at = ap (λ (x : InFlight). x.line) gone in let off : ⊥ = omega (arith, some, is, at) in off)).0
     ∙ sym (other_line (of_worker u.flight worker) line far).0
 
-has_line : (flight : List InFlight) (worker line : ℕ) → to_stage_of flight worker line < 16 → HasLine flight worker line
+has_line : (flight : List InFlight) (worker line : ℕ) → to_stage_of flight worker line < 16 → HasLineOrNone flight worker line
 has_line flight worker line low =
     ⊎_elim (λ is. inr is) (λ far. let all = (other_line (of_worker flight worker) line far).1 in absurd (let off : ⊥ = omega (arith, low, all) in off)) (cases_eq (of_worker flight worker).line line)
 
-module _ {D : Type 0} (g : Ghosts D) (o : Opening) (u : Core D) (worker line : ℕ) (call : Call) (core : IsCore g u) (flight : FlightStands g o u.device u.flight) (has : HasLine u.flight worker line) (of : IsLineOf o worker line call) where
+module _ {D : Type 0} (g : Ghosts D) (o : Opening) (u : Core D) (worker line : ℕ) (call : Call) (core : IsCore g u) (flight : FlightIsOfLines g o u.device u.flight) (has : HasLineOrNone u.flight worker line) (of : IsLineOf o worker line call) where
   abbrev now : InFlight
   now = of_worker u.flight worker
 
@@ -146,7 +146,7 @@ module _ {D : Type 0} (g : Ghosts D) (o : Opening) (u : Core D) (worker line : �
 
 -- ---- what a staging tells
 
-module _ {D : Type 0} (g : Ghosts D) (origin : Core D) (o : Opening) (h : List Entry) (u : Core D) (done worker line : ℕ) (call : Call) (s : StandsFor g origin o h u done) (of : IsLineOf o worker line call) (has : HasLine u.flight worker line) where
+module _ {D : Type 0} (g : Ghosts D) (origin : Core D) (o : Opening) (h : List Entry) (u : Core D) (done worker line : ℕ) (call : Call) (s : RepresentsHistory g origin o h u done) (of : IsLineOf o worker line call) (has : HasLineOrNone u.flight worker line) where
   abbrev place : ℕ
   place = length (of_worker u.flight worker).pages
 
@@ -171,8 +171,8 @@ module _ {D : Type 0} (g : Ghosts D) (origin : Core D) (o : Opening) (h : List E
       let more : length (of_worker w.flight worker).pages ≡ place + 1 = omega (arith, less, before, after) in
       staged_first g o w worker line call t.serves.core t.flight now of ∙ ap (range_with_len (first_whole call)) more
 
-  module _ (tag : Tag) (at : IsNext call place tag) (is : IsNextIn g u (path_of call) (from_of call) (len_of call) place (next.Page tag)) where
-    one_first : (page_of_stamp : ℕ → Option PageOfStamp) (tree : Tree) → RunsAs (g.shape u.device) (running_of g u) page_of_stamp tree
+  module _ (tag : Tag) (at : IsNextTag call place tag) (is : IsNextIn g u (path_of call) (from_of call) (len_of call) place (next.Page tag)) where
+    one_first : (page_of_stamp : ℕ → Option PageOfStamp) (tree : Tree) → RepresentsTree (g.shape u.device) (running_of g u) page_of_stamp tree
         → left_to_stage tree call (staged_indexes u.flight worker line) ≡ (first_whole call + place) ∷ left_to_stage tree call (range_with_len (first_whole call) (place + 1))
     one_first page_of_stamp tree runs =
         ap (left_to_stage tree call) first_u ∙ one_left tree place call (is.0 page_of_stamp tree runs) is.1 (subst (λ i. IsSome (page_given call i)) at.index at.whole)

@@ -14,15 +14,15 @@ use Rattle.nl_meta.proofs.Lists.{member-find}
 use Rattle.nl_meta.specs.Consistent.{PageOfStamp}
 use Rattle.nl_core.specs.Calls.{KeepsLines}
 use Rattle.nl_core.specs.Core.{IsCore}
-use Rattle.nl_core.specs.Goes.{Goes}
-use Rattle.nl_core.specs.Trees.{CoreRuns}
+use Rattle.nl_core.specs.Goes.{PreservesVolume}
+use Rattle.nl_core.specs.Trees.{CoreRepresentsTree}
 use Rattle.nl_core.specs.declared.state.Core.{Core}
 use Rattle.nl_turns.specs.History.{Opening}
 use Rattle.nl_tree.specs.declared.turn.DutyAnswer.{DutyAnswer}
 use Rattle.nl_turns.specs.Served.{IsLineOf, NoMoreToStage, StaysReadOnly, duty_entry}
 use Rattle.nl_turns.specs.declared.entry.Entry.{Entry}
 use Rattle.nl_volume_stage.specs.Serving.{counts_of, some_number, staged_fault, to_stage_of}
-use Rattle.nl_volume_stage.specs.Standing.{Serves, StandsFor}
+use Rattle.nl_volume_stage.specs.Standing.{Serves, RepresentsHistory}
 use Rattle.nl_volume_stage.specs.Turns.{AreCounts}
 use Rattle.nl_volume_stage.proofs.Causes.{first_sum}
 use Rattle.nl_volume_stage.proofs.Alike.{line_alike}
@@ -46,7 +46,7 @@ none_is n is = ⊎_elim (λ none. none) (λ some. absurd (cc (sym (some_of n som
 
 -- ---- calls of the core
 
-module _ {D : Type 0} (g : Ghosts D) (n : ℕ) (u v : Core D) (core : IsCore g u) (a : Goes g n u v) where
+module _ {D : Type 0} (g : Ghosts D) (n : ℕ) (u v : Core D) (core : IsCore g u) (a : PreservesVolume g n u v) where
   pub never_fall : NeverFall (counts_of g u.device) (counts_of g v.device)
   never_fall = record { clock = a.clock; read_faults = a.reads; write_faults = a.writes }
 
@@ -79,18 +79,18 @@ module _ (old new : List InFlight) (worker line : ℕ) (alike : nameless_line (o
 
 -- ---- a duty
 
-module _ {D : Type 0} (g : Ghosts D) (origin : Core D) (o : Opening) (h : List Entry) (u v : Core D) (done : ℕ) (s : StandsFor g origin o h u done) where
+module _ {D : Type 0} (g : Ghosts D) (origin : Core D) (o : Opening) (h : List Entry) (u v : Core D) (done : ℕ) (s : RepresentsHistory g origin o h u done) where
   -- while the medium tells its contents, it runs as the tree after the history
-  pub runs_of : g.tells → (page_of_stamp : ℕ → Option PageOfStamp) × (tree : Tree) × CoreRuns g u page_of_stamp tree
+  pub runs_of : g.tells → (page_of_stamp : ℕ → Option PageOfStamp) × (tree : Tree) × CoreRepresentsTree g u page_of_stamp tree
   runs_of tells = let k = s.serves.along.runs tells in (k.0, _, k.1)
 
-  module _ (n : ℕ) (core : IsCore g v) (goes : Goes g n u v) (lines : KeepsLines u v) (counts : AreCounts g v) where
-    pub keeps_lines_stands : StandsFor g origin o h v done
+  module _ (n : ℕ) (core : IsCore g v) (goes : PreservesVolume g n u v) (lines : KeepsLines u v) (counts : AreCounts g v) where
+    pub keeps_lines_stands : RepresentsHistory g origin o h v done
     keeps_lines_stands = calls_stand g origin o h u v done s
         (record { on = record { core = core; counts = counts; most = n; goes = goes }; flight = flight_on g o u v s.serves.core core (goes_keeps g n u v goes) runs_of lines s.flight })
         (faults_on u v lines)
 
-    pub duty_stands : (answer : DutyAnswer) → StandsFor g origin o (h ++ duty_entry answer ∷ []) v done
+    pub duty_stands : (answer : DutyAnswer) → RepresentsHistory g origin o (h ++ duty_entry answer ∷ []) v done
     duty_stands answer = quiet_stands g origin o h v done (duty_entry answer) keeps_lines_stands (record { line = refl; fault = refl; synced = refl })
 
 pub no_more : {D : Type 0} (u v : Core D) → KeepsLines u v → NoMoreToStage (to_stage_of u.flight) (to_stage_of v.flight)

@@ -12,12 +12,12 @@ use Rattle.nl_turns.specs.Served.{IsLineOf, KeepsStagedFaults, StagesLess, Stays
 use Rattle.nl_turns.specs.declared.entry.Entry.{Entry}
 use Rattle.nl_volume_stage.specs.Serving.{counts_of, refusing_of, some_number, to_stage_of}
 use Rattle.nl_volume_stage.specs.Staging.{StagesOn}
-use Rattle.nl_volume_stage.specs.Standing.{StandsFor}
+use Rattle.nl_volume_stage.specs.Standing.{RepresentsHistory}
 use Rattle.nl_volume_stage.proofs.Serving.{never_fall, staged_same, stays_read_only, to_stage_same}
 use Rattle.nl_volume_stage.proofs.Standing.{quiet_stands}
 
 module _ {D : Type 0} (g : Ghosts D) (worker line : ℕ) (call : Call) (u w : Core D) (answer : Stage) (core : IsCore g u) (x : StagesOn g worker line call u w answer) where
-  pub staged_stands : (origin : Core D) (o : Opening) (h : List Entry) (done : ℕ) → StandsFor g origin o h u done → IsLineOf o worker line call → StandsFor g origin o (h ++ stage_entry line answer ∷ []) w done
+  pub staged_stands : (origin : Core D) (o : Opening) (h : List Entry) (done : ℕ) → RepresentsHistory g origin o h u done → IsLineOf o worker line call → RepresentsHistory g origin o (h ++ stage_entry line answer ∷ []) w done
   staged_stands origin o h done s of = quiet_stands g origin o h w done (stage_entry line answer) (x.on origin o h done s of) (record { line = refl; fault = refl; synced = refl })
 
   pub staged_counts : NeverFall (counts_of g u.device) (counts_of g w.device)

@@ -15,9 +15,9 @@ use Rattle.nl_iface.specs.declared.counts.Counts.{Ghosts}
 use Rattle.nl_core.specs.Calls.{KeepsLines}
 use Rattle.nl_core.specs.Core.{IsCore}
 use Rattle.nl_core.specs.Dropping.{DropsLine}
-use Rattle.nl_core.specs.Goes.{Goes}
+use Rattle.nl_core.specs.Goes.{PreservesVolume}
 use Rattle.nl_core.specs.Lines.{notes_fault}
-use Rattle.nl_core.specs.Programming.{HasLine, PutsInFlight, behind, line_of, with_page}
+use Rattle.nl_core.specs.Programming.{HasLineOrNone, PutsInFlight, behind, line_of, with_page}
 use Rattle.nl_core.specs.declared.state.Core.{Core}
 use Rattle.nl_core.proofs.Onward.{goes_none, goes_then}
 use Rattle.nl_calls_steps.specs.Steps.{ReadsOn}
@@ -25,7 +25,7 @@ use Rattle.nl_calls_steps.proofs.LineEnds.{flight_step}
 use Rattle.nl_calls_steps.proofs.Stepping.{read_alike}
 use Rattle.nl_turns.specs.Served.{is_fault}
 use Rattle.nl_volume_stage.specs.Serving.{counts_of, some_number, staged_fault, to_stage_of}
-use Rattle.nl_volume_stage.specs.Staging.{IsNext, PassesOn, StagesOn}
+use Rattle.nl_volume_stage.specs.Staging.{IsNextTag, PassesOn, StagesOn}
 use Rattle.nl_volume_stage.specs.Turns.{AreCounts, FaultsStay}
 use Rattle.nl_volume_stage.proofs.Failing.{failure_noted}
 use Rattle.nl_volume_stage.proofs.Alike.{line_alike}
@@ -64,7 +64,7 @@ module _ {D : Type 0} (g : Ghosts D) (worker line : ℕ) (u v : Core D) (core : 
 
 -- ---- a call of the core that keeps the lines
 
-pub passes_kept : {D : Type 0} (g : Ghosts D) (worker line : ℕ) (u v : Core D) → IsCore g v → AreCounts g v → (n : ℕ) → Goes g n u v → KeepsLines u v → PassesOn g worker line u v
+pub passes_kept : {D : Type 0} (g : Ghosts D) (worker line : ℕ) (u v : Core D) → IsCore g v → AreCounts g v → (n : ℕ) → PreservesVolume g n u v → KeepsLines u v → PassesOn g worker line u v
 passes_kept g worker line u v core most n goes lines = record {
   most = n;
   goes = goes;
@@ -74,7 +74,7 @@ passes_kept g worker line u v core most n goes lines = record {
   room = to_stage_same u.flight v.flight worker line (line_alike u.flight v.flight worker lines);
 }
 
-pub keeps_line : (u v : List InFlight) (worker line : ℕ) → map nameless_line v ≡ map nameless_line u → HasLine u worker line → HasLine v worker line
+pub keeps_line : (u v : List InFlight) (worker line : ℕ) → map nameless_line v ≡ map nameless_line u → HasLineOrNone u worker line → HasLineOrNone v worker line
 keeps_line u v worker line lines has =
     let same = same_line (of_worker u worker) (of_worker v worker) (line_alike u v worker lines) in
     ⊎_elim (λ none. inl (same ∙ none)) (λ is. inr (same ∙ is)) has
@@ -82,7 +82,7 @@ keeps_line u v worker line lines has =
 -- ---- a line is dropped
 
 module _ {D : Type 0} (g : Ghosts D) (worker line : ℕ) (u v : Core D) (core : IsCore g u) (after : IsCore g v) (most : AreCounts g v) (known : worker < 8) (some : 0 < line) (other : (of_worker u.flight worker).line ≢ line)
-    (n : ℕ) (goes : Goes g n u v) (d : DropsLine g worker u v) where
+    (n : ℕ) (goes : PreservesVolume g n u v) (d : DropsLine g worker u v) where
   in_flight : worker < length u.flight
   in_flight = let eight = core.flight.eight in omega (arith, known, eight)
 
@@ -120,8 +120,8 @@ room_at x line is = ap (λ b. cond b (16 - length x.pages) 16) (eq-eqb x.line li
 fault_at : (x : InFlight) (line : ℕ) → x.line ≡ line → cond (x.line == line) (some_number x.fault) None ≡ some_number x.fault
 fault_at x line is = ap (λ b. cond b (some_number x.fault) None) (eq-eqb x.line line is)
 
-module _ {D : Type 0} (g : Ghosts D) (worker line : ℕ) (call : Call) (u v : Core D) (core : IsCore g u) (after : IsCore g v) (most : AreCounts g v) (known : worker < 8) (some : 0 < line) (n : ℕ) (goes : Goes g n u v)
-    (tag : Tag) (main : List ℕ) (p : PutsInFlight g worker line tag main u v) (has : HasLine u.flight worker line) (next : IsNext call (length (of_worker u.flight worker).pages) tag) (given : page_given call tag.index ≡ Some main) (few : length (of_worker u.flight worker).pages < 16) where
+module _ {D : Type 0} (g : Ghosts D) (worker line : ℕ) (call : Call) (u v : Core D) (core : IsCore g u) (after : IsCore g v) (most : AreCounts g v) (known : worker < 8) (some : 0 < line) (n : ℕ) (goes : PreservesVolume g n u v)
+    (tag : Tag) (main : List ℕ) (p : PutsInFlight g worker line tag main u v) (has : HasLineOrNone u.flight worker line) (next : IsNextTag call (length (of_worker u.flight worker).pages) tag) (given : page_given call tag.index ≡ Some main) (few : length (of_worker u.flight worker).pages < 16) where
   abbrev was : InFlight
   was = of_worker u.flight worker
 
@@ -211,7 +211,7 @@ module _ {D : Type 0} (g : Ghosts D) (worker line : ℕ) (call : Call) (u v : Co
   }
 
   -- an operation of the medium failed, and the line keeps that
-  module _ (core : IsCore g u) (after : IsCore g v) (volume : IsVolumeShape (g.shape v.device)) (stores : g.tells → StoresPages g v.device) (most : AreCounts g v) (known : worker < 8) (some : 0 < line) (has : HasLine v.flight worker line)
+  module _ (core : IsCore g u) (after : IsCore g v) (volume : IsVolumeShape (g.shape v.device)) (stores : g.tells → StoresPages g v.device) (most : AreCounts g v) (known : worker < 8) (some : 0 < line) (has : HasLineOrNone v.flight worker line)
       (rose : FaultRose (counts_of g u.device) (counts_of g v.device)) (faults : FaultsStay u.flight v.flight) (lines : IsFlight (notes_fault g worker line v).flight) where
     abbrev pub w : Core D
     w = notes_fault g worker line v

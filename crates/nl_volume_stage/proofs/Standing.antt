@@ -11,16 +11,16 @@ use Rattle.nl_tree.specs.declared.reply.FaultReply.TheVariants.{Eio, Erofs, Ewor
 use Rattle.nl_tree.proofs.FaultProofs.{fault_laws}
 use Rattle.nl_flight.specs.Flight.{InFlight}
 use Rattle.nl_iface.specs.declared.counts.Counts.{Ghosts}
-use Rattle.nl_core.specs.Goes.{Goes}
+use Rattle.nl_core.specs.Goes.{PreservesVolume}
 use Rattle.nl_core.specs.declared.state.Core.{Core}
-use Rattle.nl_spec_crashes.specs.Along.{GoesAlong}
+use Rattle.nl_spec_crashes.specs.Along.{FollowsRun}
 use Rattle.nl_spec_crashes.proofs.Along.{call_goes_along}
 use Rattle.nl_turns.specs.History.{IsKnown, IsSyncInRange, Opening, call_at, effects, fault_of, is_effect, is_sync, marked_calls, opening_counts, sync_of, syncs_of}
 use Rattle.nl_turns.specs.declared.entry.Entry.{Entry}
 use Rattle.nl_turns.specs.declared.entry.SyncMark.{SyncMark}
 use Rattle.nl_volume_stage.specs.Serving.{counts_of}
-use Rattle.nl_volume_stage.specs.Standing.{MarkHasCause, MomentsRise, NumbersDiffer, Serves, StandsFor, run_of}
-use Rattle.nl_volume_stage.specs.Turns.{CallsCore, FaultsStay, GoesOn, IsQuiet}
+use Rattle.nl_volume_stage.specs.Standing.{FaultReplyHasCause, MomentsRise, NumbersDiffer, Serves, RepresentsHistory, run_of}
+use Rattle.nl_volume_stage.specs.Turns.{CallsCore, FaultsStay, PreservesCore, IsQuiet}
 use Rattle.nl_volume_stage.proofs.Causes.{first_failed, first_sum, later_then, still_cause, still_failed}
 use Rattle.nl_volume_stage.proofs.Histories.{calls_more, effects_more, has_or_last, no_call, no_sync, pairs_more, syncs_in_range, syncs_more}
 
@@ -54,13 +54,13 @@ module _ {D : Type 0} (g : Ghosts D) (origin : Core D) (o : Opening) (h : List E
     lines = s.lines;
     core = s.core;
     known = λ x has. ⊎_elim (s.known x) (λ is. subst (IsKnown o) is known_quiet) (has_or_last h e x has);
-    along = subst (λ r. GoesAlong g origin o.clock r v) (sym same_run) s.along;
+    along = subst (λ r. FollowsRun g origin o.clock r v) (sym same_run) s.along;
     effects = s.effects ∙ ap saturated (sym (effects_more h e ∙ (ap (λ b. effects h + cond b 1 0) no_effect ∙ (omega arith))));
     since = s.since;
     next_stamp = s.next_stamp;
     read_only = s.read_only;
     marks = λ x has. ⊎_elim (s.marks x)
-        (λ is. subst (λ (y : Entry). IfSome (fault_of y.fault) (MarkHasCause g.tells o (counts_of g v.device) y)) is (subst (λ (f : Option FaultReply). IfSome f (MarkHasCause g.tells o (counts_of g v.device) e)) (sym no_fault) tt))
+        (λ is. subst (λ (y : Entry). IfSome (fault_of y.fault) (FaultReplyHasCause g.tells o (counts_of g v.device) y)) is (subst (λ (f : Option FaultReply). IfSome f (FaultReplyHasCause g.tells o (counts_of g v.device) e)) (sym no_fault) tt))
         (has_or_last h e x has);
     syncs = syncs_in_range o h e s.syncs (subst (λ (m : SyncMark). IfSome (sync_of m) (λ x. IsSyncInRange o (h ++ e ∷ []) (length h) e.line x)) (sym q.synced) tt);
     moments = subst (λ xs. MomentsRise o xs v.moment (g.clock v.device)) (sym same_syncs) s.moments;
@@ -74,7 +74,7 @@ module _ {D : Type 0} (g : Ghosts D) (origin : Core D) (o : Opening) (h : List E
     one = λ x n has is. ⊎_elim (λ was. numbers.one x n was is) (λ at. absurd (cc (is, at, no_fault))) (has_or_last h e x has);
   }
 
-pub quiet_stands : {D : Type 0} (g : Ghosts D) (origin : Core D) (o : Opening) (h : List Entry) (v : Core D) (done : ℕ) (e : Entry) → StandsFor g origin o h v done → IsQuiet e → StandsFor g origin o (h ++ e ∷ []) v done
+pub quiet_stands : {D : Type 0} (g : Ghosts D) (origin : Core D) (o : Opening) (h : List Entry) (v : Core D) (done : ℕ) (e : Entry) → RepresentsHistory g origin o h v done → IsQuiet e → RepresentsHistory g origin o (h ++ e ∷ []) v done
 quiet_stands g origin o h v done e s q = record {
   serves = quiet_serves g origin o h v done e s.serves q;
   flight = s.flight;
@@ -83,8 +83,8 @@ quiet_stands g origin o h v done e s q = record {
 
 -- ---- a call of the core
 
-module _ {D : Type 0} (g : Ghosts D) (origin : Core D) (o : Opening) (h : List Entry) (u v : Core D) (done : ℕ) (s : Serves g origin o h u done) (c : GoesOn g u v) where
-  a : Goes g c.most u v
+module _ {D : Type 0} (g : Ghosts D) (origin : Core D) (o : Opening) (h : List Entry) (u v : Core D) (done : ℕ) (s : Serves g origin o h u done) (c : PreservesCore g u v) where
+  a : PreservesVolume g c.most u v
   a = c.goes
 
   pub later : NeverFall (counts_of g u.device) (counts_of g v.device)
@@ -116,7 +116,7 @@ module _ {D : Type 0} (g : Ghosts D) (origin : Core D) (o : Opening) (h : List E
         first_sum (opening_counts o) (counts_of g u.device) (counts_of g v.device) s.since k.0 few v.stopped k.1.0 k.1.1,
       )
 
-  mark_on : (e : Entry) (f : Option FaultReply) → IfSome f (MarkHasCause g.tells o (counts_of g u.device) e) → IfSome f (MarkHasCause g.tells o (counts_of g v.device) e)
+  mark_on : (e : Entry) (f : Option FaultReply) → IfSome f (FaultReplyHasCause g.tells o (counts_of g u.device) e) → IfSome f (FaultReplyHasCause g.tells o (counts_of g v.device) e)
   mark_on e None is = is
   mark_on e (Some fault) is = (is.0, is.1, still_cause (opening_counts o) (counts_of g u.device) (counts_of g v.device) later s.since c.counts.write_faults c.counts.clock g.tells o.next_stamp is.0 fault is.2)
 
@@ -142,7 +142,7 @@ module _ {D : Type 0} (g : Ghosts D) (origin : Core D) (o : Opening) (h : List E
       }
 
   -- no line failed with the number 0
-  pub no_zero : (e : Entry) (f : Option FaultReply) (n : ℕ) → IfSome f (MarkHasCause g.tells o (counts_of g u.device) e) → eio_of f ≡ Some n → n ≡ 0 → ⊥
+  pub no_zero : (e : Entry) (f : Option FaultReply) (n : ℕ) → IfSome f (FaultReplyHasCause g.tells o (counts_of g u.device) e) → eio_of f ≡ Some n → n ≡ 0 → ⊥
   no_zero e None n is same none = cc same
   no_zero e (Some (Eio m)) n is same none = let at : m ≡ n = cc same in ⊎_elim (λ low. omega (arith, low, at, none)) (λ high. omega (arith, high, at, none)) is.2.0
   no_zero e (Some (Erofs m)) n is same none = cc same
@@ -176,8 +176,8 @@ module _ {D : Type 0} (g : Ghosts D) (origin : Core D) (o : Opening) (h : List E
 
 -- ---- and keeps what is in flight in order
 
-module _ {D : Type 0} (g : Ghosts D) (origin : Core D) (o : Opening) (h : List Entry) (u v : Core D) (done : ℕ) (s : StandsFor g origin o h u done) (c : CallsCore g o u v) where
-  pub calls_stand_with : NumbersDiffer h v.flight v.stopped → StandsFor g origin o h v done
+module _ {D : Type 0} (g : Ghosts D) (origin : Core D) (o : Opening) (h : List Entry) (u v : Core D) (done : ℕ) (s : RepresentsHistory g origin o h u done) (c : CallsCore g o u v) where
+  pub calls_stand_with : NumbersDiffer h v.flight v.stopped → RepresentsHistory g origin o h v done
   calls_stand_with numbers = record { serves = calls_serve g origin o h u v done s.serves c.on; flight = c.flight; numbers = numbers }
 
   -- where no staging failed, the numbers of failed lines are those of before
@@ -193,5 +193,5 @@ module _ {D : Type 0} (g : Ghosts D) (origin : Core D) (o : Opening) (h : List E
     one = none_read_only g origin o h u v done s.serves c.on s.numbers.one (cases_eq u.stopped 0);
   }
 
-  pub calls_stand : FaultsStay u.flight v.flight → StandsFor g origin o h v done
+  pub calls_stand : FaultsStay u.flight v.flight → RepresentsHistory g origin o h v done
   calls_stand faults = calls_stand_with (numbers_stay faults)

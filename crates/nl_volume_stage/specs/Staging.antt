@@ -14,47 +14,47 @@ use Rattle.nl_flight.specs.Flight.{InFlight, of_worker}
 use Rattle.nl_iface.specs.declared.counts.Counts.{Ghosts}
 use Rattle.nl_meta.specs.Consistent.{PageOfStamp}
 use Rattle.nl_meta_running.specs.Running.{IsDirectoryAt}
-use Rattle.nl_spec_commits.specs.Trees.{RunsAs}
+use Rattle.nl_spec_commits.specs.Trees.{RepresentsTree}
 use Rattle.nl_core.specs.Core.{running_of}
-use Rattle.nl_core.specs.Goes.{Goes}
-use Rattle.nl_core.specs.Trees.{CoreRuns}
+use Rattle.nl_core.specs.Goes.{PreservesVolume}
+use Rattle.nl_core.specs.Trees.{CoreRepresentsTree}
 use Rattle.nl_core.specs.declared.state.Core.{Core}
-use Rattle.nl_calls_steps.specs.Calls.{OthersStay}
+use Rattle.nl_calls_steps.specs.Calls.{OtherLinesStay}
 use Rattle.nl_calls_steps.specs.Finding.{IsSomeFile}
 use Rattle.nl_turns.specs.History.{Opening}
 use Rattle.nl_turns.specs.Served.{IsLineOf, is_fault, is_staged}
 use Rattle.nl_turns.specs.declared.entry.Entry.{Entry}
 use Rattle.nl_volume_stage.specs.Serving.{counts_of, staged_fault, to_stage_of}
-use Rattle.nl_volume_stage.specs.Standing.{StandsFor, first_whole}
+use Rattle.nl_volume_stage.specs.Standing.{RepresentsHistory, first_whole}
 use Rattle.nl_volume_stage.specs.declared.next.Next.{Next}
 use Rattle.nl_volume_stage.specs.declared.next.Next.TheVariants as next
 
 -- The volume stands for whatever it stood for.
-abbrev pub StandsOn : {D : Type 0} → Ghosts D → Core D → Core D → Type 0
-StandsOn {D} g old new =
-    (origin : Core D) (o : Opening) (h : List Entry) (done : ℕ) → StandsFor g origin o h old done → StandsFor g origin o h new done
+abbrev pub PreservesHistory : {D : Type 0} → Ghosts D → Core D → Core D → Type 0
+PreservesHistory {D} g old new =
+    (origin : Core D) (o : Opening) (h : List Entry) (done : ℕ) → RepresentsHistory g origin o h old done → RepresentsHistory g origin o h new done
 
 -- the volume stands for whatever it stood for, with an opening that has this line, of this worker and with this call
-abbrev pub StandsOnWith : {D : Type 0} → Ghosts D → ℕ → ℕ → Call → Core D → Core D → Type 0
-StandsOnWith {D} g worker line call old new =
-    (origin : Core D) (o : Opening) (h : List Entry) (done : ℕ) → StandsFor g origin o h old done → IsLineOf o worker line call
-    → StandsFor g origin o h new done
+abbrev pub PreservesHistoryWith : {D : Type 0} → Ghosts D → ℕ → ℕ → Call → Core D → Core D → Type 0
+PreservesHistoryWith {D} g worker line call old new =
+    (origin : Core D) (o : Opening) (h : List Entry) (done : ℕ) → RepresentsHistory g origin o h old done → IsLineOf o worker line call
+    → RepresentsHistory g origin o h new done
 
 -- the volume stands for some opening and history
-abbrev pub Stands : {D : Type 0} → Ghosts D → Core D → Type 0
-Stands {D} g v = (origin : Core D) × (o : Opening) × (h : List Entry) × (done : ℕ) × StandsFor g origin o h v done
+abbrev pub RepresentsSome : {D : Type 0} → Ghosts D → Core D → Type 0
+RepresentsSome {D} g v = (origin : Core D) × (o : Opening) × (h : List Entry) × (done : ℕ) × RepresentsHistory g origin o h v done
 
 -- the volume stands for some history and an opening that has this line, of this worker and with this call
-abbrev pub StandsWithLine : {D : Type 0} → Ghosts D → ℕ → ℕ → Call → Core D → Type 0
-StandsWithLine {D} g worker line call v =
-    (origin : Core D) × (o : Opening) × (h : List Entry) × (done : ℕ) × StandsFor g origin o h v done × IsLineOf o worker line call
+abbrev pub RepresentsWithLine : {D : Type 0} → Ghosts D → ℕ → ℕ → Call → Core D → Type 0
+RepresentsWithLine {D} g worker line call v =
+    (origin : Core D) × (o : Opening) × (h : List Entry) × (done : ℕ) × RepresentsHistory g origin o h v done × IsLineOf o worker line call
 
 -- A part of a staging that programs no page: what the volume shows of the worker's line stays, and so do the lines of others.
 pub record PassesOn {D : Type 0} (g : Ghosts D) (worker line : ℕ) (old new : Core D) : Type 0 where
   pub most : ℕ
-  pub goes : Goes g most old new
-  pub on : StandsOn g old new
-  pub others : OthersStay worker old.flight new.flight
+  pub goes : PreservesVolume g most old new
+  pub on : PreservesHistory g old new
+  pub others : OtherLinesStay worker old.flight new.flight
   pub fault : staged_fault new.flight worker line ≡ staged_fault old.flight worker line
   pub room : to_stage_of new.flight worker line ≡ to_stage_of old.flight worker line
 
@@ -62,9 +62,9 @@ pub record PassesOn {D : Type 0} (g : Ghosts D) (worker line : ℕ) (old new : C
 -- flight.
 pub record StagesOn {D : Type 0} (g : Ghosts D) (worker line : ℕ) (call : Call) (old new : Core D) (answer : Stage) : Type 0 where
   pub most : ℕ
-  pub goes : Goes g most old new
-  pub on : StandsOnWith g worker line call old new
-  pub others : OthersStay worker old.flight new.flight
+  pub goes : PreservesVolume g most old new
+  pub on : PreservesHistoryWith g worker line call old new
+  pub others : OtherLinesStay worker old.flight new.flight
   pub fault : staged_fault new.flight worker line
       ≡ (if is_fault answer then Some (fault_sum (counts_of g new.device)) else staged_fault old.flight worker line)
   pub room : is_staged answer ≡ true → to_stage_of old.flight worker line ≡ to_stage_of new.flight worker line + 1
@@ -72,7 +72,7 @@ pub record StagesOn {D : Type 0} (g : Ghosts D) (worker line : ℕ) (call : Call
   pub lost : (w f : ℕ) → answer ≡ stage.Lost w f → LostHasCause g.tells w f
 
 -- The tag is that of the page at a place of the call's range.
-pub record IsNext (call : Call) (place : ℕ) (tag : Tag) : Type 0 where
+pub record IsNextTag (call : Call) (place : ℕ) (tag : Tag) : Type 0 where
   pub index : tag.index ≡ first_whole call + place
   pub whole : IsSome (page_given call tag.index)
 
@@ -101,14 +101,14 @@ StagesFirst before after read_failed (stage.Lost w f) = ⊤
 -- a staging says so of the line's pages, while the medium tells its contents, in each tree as which the core runs
 abbrev pub TellsLeft : {D : Type 0} → Ghosts D → ℕ → ℕ → Call → Core D → Core D → Stage → Type 0
 TellsLeft g worker line call old new answer =
-    g.tells → (page_of_stamp : ℕ → Option PageOfStamp) (tree : Tree) → CoreRuns g old page_of_stamp tree
+    g.tells → (page_of_stamp : ℕ → Option PageOfStamp) (tree : Tree) → CoreRepresentsTree g old page_of_stamp tree
     → StagesFirst (left_to_stage tree call (staged_indexes old.flight worker line))
     (left_to_stage tree call (staged_indexes new.flight worker line)) (Rose (g.read_faults old.device) (g.read_faults new.device)) answer
 
 -- in each tree for which the pages of the core stand, a file is at the path, or none
-abbrev pub HasFile : {D : Type 0} → Ghosts D → Core D → List (List ℕ) → Bool → Type 0
-HasFile g v path is =
-    (page_of_stamp : ℕ → Option PageOfStamp) (tree : Tree) → RunsAs (g.shape v.device) (running_of g v) page_of_stamp tree
+abbrev pub FileIsAt : {D : Type 0} → Ghosts D → Core D → List (List ℕ) → Bool → Type 0
+FileIsAt g v path is =
+    (page_of_stamp : ℕ → Option PageOfStamp) (tree : Tree) → RepresentsTree (g.shape v.device) (running_of g v) page_of_stamp tree
     → is_file (node_at tree path) ≡ is
 
 -- What is next of a range of a file, so many of whose pages are in flight. A page of it is, which ends at the greatest size at the latest;
@@ -122,7 +122,7 @@ IsNextOf file none from len place next.Fault = ⊤
 
 -- of the file at a path, and of a node
 abbrev pub IsNextIn : {D : Type 0} → Ghosts D → Core D → List (List ℕ) → (from len place : ℕ) → Next → Type 0
-IsNextIn g v path from len place answer = IsNextOf (HasFile g v path true) (HasFile g v path false) from len place answer
+IsNextIn g v path from len place answer = IsNextOf (FileIsAt g v path true) (FileIsAt g v path false) from len place answer
 
 abbrev pub IsNextAt : {D : Type 0} → Ghosts D → Core D → (n from len place : ℕ) → Next → Type 0
 IsNextAt g v n from len place answer = IsNextOf (IsSomeFile g v n) (IsDirectoryAt g v.device v.meta n) from len place answer

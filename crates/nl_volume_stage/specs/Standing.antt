@@ -15,7 +15,7 @@ use Rattle.nl_iface.specs.declared.counts.Counts.{Ghosts}
 use Rattle.nl_spec_image.specs.Crash.{Run}
 use Rattle.nl_core.specs.Core.{IsCore}
 use Rattle.nl_core.specs.declared.state.Core.{Core}
-use Rattle.nl_spec_crashes.specs.Along.{GoesAlong}
+use Rattle.nl_spec_crashes.specs.Along.{FollowsRun}
 use Rattle.nl_calls_write.specs.Calls.{IsStagedPage}
 use Rattle.nl_calls_bytes.specs.Ranges.{from_of}
 use Rattle.nl_turns.specs.History.{IsKnown, Opening, SyncsInRange, call_of, effects, fault_of, marked_calls, opening_counts, syncs_of}
@@ -42,8 +42,8 @@ pub record IsInFlight {D : Type 0} (g : Ghosts D) (opening : Opening) (s : D) (w
   pub fault : now.fault ≢ 0 → IsSumSince (opening_counts opening) (counts_of g s) now.fault
 
 -- The line of each worker stands in the opening, where it has one; else no failure of a staging is kept.
-abbrev pub FlightStands : {D : Type 0} → Ghosts D → Opening → D → List InFlight → Type 0
-FlightStands g opening s flight =
+abbrev pub FlightIsOfLines : {D : Type 0} → Ghosts D → Opening → D → List InFlight → Type 0
+FlightIsOfLines g opening s flight =
     (worker : ℕ) → (((of_worker flight worker).line ≡ 0) × ((of_worker flight worker).fault ≡ 0))
     ⊎ IsInFlight g opening s worker (of_worker flight worker)
 
@@ -62,8 +62,8 @@ pub record NumbersDiffer (history : List Entry) (flight : List InFlight) (stoppe
 -- ---- the whole
 
 -- a fault reply of the history stands at the effect of a call, and has its cause since the opening
-abbrev pub MarkHasCause : Type 0 → Opening → Counts → Entry → FaultReply → Type 0
-MarkHasCause tells opening now entry fault =
+abbrev pub FaultReplyHasCause : Type 0 → Opening → Counts → Entry → FaultReply → Type 0
+FaultReplyHasCause tells opening now entry fault =
     (call : Call) × (call_of opening entry ≡ Some call) × HasCause tells (opening_counts opening) now opening.next_stamp call fault
 
 -- The moments of the syncs do not fall. Each is later than the clock of the opening, and no later than the moment of the last commit.
@@ -85,19 +85,19 @@ pub record Serves {D : Type 0} (g : Ghosts D) (origin : Core D) (opening : Openi
   pub lines : EachIsLine opening.lines
   pub core : IsCore g v
   pub known : (e : Entry) → members.Has history e → IsKnown opening e
-  pub along : GoesAlong g origin opening.clock (run_of opening history) v
+  pub along : FollowsRun g origin opening.clock (run_of opening history) v
   pub effects : done ≡ saturated (effects history)
   pub since : NeverFall (opening_counts opening) (counts_of g v.device)
   pub next_stamp : g.clock v.device < top → g.write_faults v.device < top
       → g.next_stamp v.device ≤ opening.next_stamp + (g.clock v.device - opening.clock) + (g.write_faults v.device - opening.write_faults)
   pub read_only : v.stopped ≢ 0
       → WriteFailed (opening_counts opening) (counts_of g v.device) × IsSumSince (opening_counts opening) (counts_of g v.device) v.stopped
-  pub marks : (e : Entry) → members.Has history e → IfSome (fault_of e.fault) (MarkHasCause g.tells opening (counts_of g v.device) e)
+  pub marks : (e : Entry) → members.Has history e → IfSome (fault_of e.fault) (FaultReplyHasCause g.tells opening (counts_of g v.device) e)
   pub syncs : SyncsInRange opening history
   pub moments : MomentsRise opening (syncs_of history) v.moment (g.clock v.device)
 
 -- The volume serves the history, what is in flight is of lines of the opening, and each failed line has a number of its own.
-pub record StandsFor {D : Type 0} (g : Ghosts D) (origin : Core D) (opening : Opening) (history : List Entry) (v : Core D) (done : ℕ) : Type 0 where
+pub record RepresentsHistory {D : Type 0} (g : Ghosts D) (origin : Core D) (opening : Opening) (history : List Entry) (v : Core D) (done : ℕ) : Type 0 where
   pub serves : Serves g origin opening history v done
-  pub flight : FlightStands g opening v.device v.flight
+  pub flight : FlightIsOfLines g opening v.device v.flight
   pub numbers : NumbersDiffer history v.flight v.stopped

@@ -5,14 +5,14 @@ use Rattle.nl_tree.specs.Causes.{FaultRose, NeverFall}
 use Rattle.nl_flight.specs.Flight.{InFlight, of_worker}
 use Rattle.nl_iface.specs.declared.counts.Counts.{Ghosts}
 use Rattle.nl_core.specs.Core.{IsCore}
-use Rattle.nl_core.specs.Goes.{Goes}
+use Rattle.nl_core.specs.Goes.{PreservesVolume}
 use Rattle.nl_core.specs.declared.state.Core.{Core}
 use Rattle.nl_turns.specs.History.{Opening}
 use Rattle.nl_turns.specs.declared.entry.Entry.{Entry}
 use Rattle.nl_turns.specs.declared.entry.FaultMark.TheVariants.{NoFault}
 use Rattle.nl_turns.specs.declared.entry.SyncMark.TheVariants.{NoSync}
 use Rattle.nl_volume_stage.specs.Serving.{counts_of}
-use Rattle.nl_volume_stage.specs.Standing.{FlightStands}
+use Rattle.nl_volume_stage.specs.Standing.{FlightIsOfLines}
 
 -- no effect, no fault and no sync
 pub record IsQuiet (entry : Entry) : Type 0 where
@@ -30,16 +30,16 @@ pub record AreCounts {D : Type 0} (g : Ghosts D) (v : Core D) : Type 0 where
   pub write_faults : g.write_faults v.device ≤ top
 
 -- The core goes on.
-pub record GoesOn {D : Type 0} (g : Ghosts D) (old new : Core D) : Type 0 where
+pub record PreservesCore {D : Type 0} (g : Ghosts D) (old new : Core D) : Type 0 where
   pub core : IsCore g new
   pub counts : AreCounts g new
   pub most : ℕ
-  pub goes : Goes g most old new
+  pub goes : PreservesVolume g most old new
 
 -- A call of the core that keeps what is in flight in order.
 pub record CallsCore {D : Type 0} (g : Ghosts D) (opening : Opening) (old new : Core D) : Type 0 where
-  pub on : GoesOn g old new
-  pub flight : FlightStands g opening new.device new.flight
+  pub on : PreservesCore g old new
+  pub flight : FlightIsOfLines g opening new.device new.flight
 
 -- A turn began with one volume and has come to another: an operation of the medium failed in it, and no staging has failed yet.
 pub record FailsSince {D : Type 0} (g : Ghosts D) (start now : Core D) : Type 0 where

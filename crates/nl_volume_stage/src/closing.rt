@@ -1,7 +1,7 @@
 ghost use Rattle.std.specs.Prelude.{◌≡◌, ◌≢◌, ◌⊎◌, ◌↔◌, ◌<◌, ◌^◌, ℕ, true, false, IsTrue};
-ghost use Rattle.nl_core.specs.Calls.{CommitsAll, HasCause};
+ghost use Rattle.nl_core.specs.Calls.{CommitsAll, FailureIsCounted};
 ghost use Rattle.nl_core.specs.Core.{IsCore};
-ghost use Rattle.nl_core.specs.Goes.{Goes};
+ghost use Rattle.nl_core.specs.Goes.{PreservesVolume};
 
 use nl_core::Core;
 use nl_iface::MovingPages;
@@ -23,11 +23,11 @@ pub fn commit_last<D: MovingPages>(core: &mut Core<D>, worn: bool) -> Last
     requires core { IsCore D.Counts core.old }
     requires stamp { worn ≡ false → D.next_stamp core.old.device < 2 ^ 62 }
     ensures core { IsCore D.Counts core.new }
-    ensures goes { Goes D.Counts 512 core.old core.new }
+    ensures goes { PreservesVolume D.Counts 512 core.old core.new }
     ensures left { result ≡ Last.Left → core.new ≡ core.old }
     ensures why { result ≡ Last.Left ↔ (worn ≡ true) ⊎ (core.old.stopped ≢ 0) }
     ensures commits { result ≡ Last.Done → (number : ℕ) × CommitsAll D.Counts core.old core.new number }
-    ensures fault { HasCause D.Counts (result ≡ Last.Fault) core.old core.new }
+    ensures fault { FailureIsCounted D.Counts (result ≡ Last.Fault) core.old core.new }
     ensures lost { D.tells → result ≢ Last.Lost }
 {
     if worn || core.stopped != 0 {

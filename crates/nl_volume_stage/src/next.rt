@@ -1,14 +1,14 @@
 // The page of a line that is to be staged next.
 ghost use Rattle.std.specs.Prelude.{◌≡◌, ◌≢◌, ℕ, ◌+◌, ◌-◌, ◌*◌, ◌≤◌, ◌<◌, false, take, drop, IfSome, IsSome, IsTrue, Some, None, length};
 ghost use Rattle.nl_field.specs.Numbers.{max_file_size};
-ghost use Rattle.nl_meta_running.specs.Running.{IsUsed};
+ghost use Rattle.nl_meta_running.specs.Running.{IsUsedNode};
 ghost use Rattle.std.specs.Int.{div_ceil};
 ghost use Rattle.nl_core.specs.Core.{IsCore};
 ghost use Rattle.nl_calls_steps.specs.Steps.{ReadsOn};
 ghost use Rattle.nl_field.specs.CrashStates.{Rose};
 ghost use Rattle.nl_flight.specs.Flight.{of_worker};
 ghost use Rattle.nl_tree.specs.Event.{is_whole, page_given};
-ghost use Rattle.nl_volume_stage.specs.Staging.{IfPage, IsNext, IsNextAt, IsNextIn};
+ghost use Rattle.nl_volume_stage.specs.Staging.{IfPage, IsNextTag, IsNextAt, IsNextIn};
 ghost use Rattle.nl_calls_bytes.specs.Ranges.{from_of, len_of, path_of};
 
 use nl_calls_steps::{look_up, open_node};
@@ -46,7 +46,7 @@ pub(crate) fn next_of<D: MovingPages>(core: &mut Core<D>, call: &Call, place: u3
     requires few { place ≤ 16 }
     ensures core { IsCore D.Counts core.new }
     ensures same { ReadsOn D.Counts core.old core.new }
-    ensures page { IfPage result (IsNext call.now place) }
+    ensures page { IfPage result (IsNextTag call.now place) }
     ensures left { IsNextIn D.Counts core.old (path_of call.now) (from_of call.now) (len_of call.now) place result }
     ensures fault { result ≡ Next.Fault → Rose (D.read_faults core.old.device) (D.read_faults core.new.device) }
     ensures lost { (w : ℕ) (f : ℕ) → result ≡ Next.Lost w f → (f ≢ w) × (D.tells → ⊥) }
@@ -88,7 +88,7 @@ fn next_in<D: MovingPages>(core: &mut Core<D>, path: &Path, from: u64, len: u64,
 // What is staged next of a range of bytes of a node that is used, so many of whose pages are in flight.
 fn next_at<D: MovingPages>(core: &mut Core<D>, ino: u32, from: u64, len: u64, place: u32) -> Next
     requires core { IsCore D.Counts core.old }
-    requires used { IsUsed D.Counts core.old.device core.old.meta ino }
+    requires used { IsUsedNode D.Counts core.old.device core.old.meta ino }
     requires few { place ≤ 16 }
     ensures core { IsCore D.Counts core.new }
     ensures same { ReadsOn D.Counts core.old core.new }

@@ -1,7 +1,7 @@
 ghost use Rattle.std.specs.Prelude.{◌≡◌, ◌≢◌, ◌⊎◌, ◌↔◌, ◌≤◌, ◌<◌, ◌^◌, length};
-ghost use Rattle.nl_core.specs.Programming.{HasLine};
+ghost use Rattle.nl_core.specs.Programming.{HasLineOrNone};
 ghost use Rattle.nl_flight.specs.Flight.{of_worker};
-ghost use Rattle.nl_volume_stage.specs.Staging.{IsNext, PassesOn, StagesOn, Stands, StandsWithLine, TellsLeft, staged_indexes};
+ghost use Rattle.nl_volume_stage.specs.Staging.{IsNextTag, PassesOn, StagesOn, RepresentsSome, RepresentsWithLine, TellsLeft, staged_indexes};
 
 use crate::next::{Next, fill_page, flying, next_of};
 use crate::numbers::{counts, is_worn};
@@ -20,7 +20,7 @@ pub fn stage_line<D: MovingPages>(
     call: &Call,
     page: &mut PageBuf,
 ) -> Stage
-    requires stands { StandsWithLine D.Counts worker line call.now core.old }
+    requires stands { RepresentsWithLine D.Counts worker line call.now core.old }
     requires known { worker < 8 }
     requires some { 0 < line }
     ensures stages { StagesOn D.Counts worker line call.now core.old core.new result }
@@ -42,10 +42,10 @@ fn stage_now<D: MovingPages>(
     call: &Call,
     page: &mut PageBuf,
 ) -> Stage
-    requires stands { StandsWithLine D.Counts worker line call.now core.old }
+    requires stands { RepresentsWithLine D.Counts worker line call.now core.old }
     requires known { worker < 8 }
     requires some { 0 < line }
-    requires line { HasLine core.old.flight worker line }
+    requires line { HasLineOrNone core.old.flight worker line }
     requires writes { core.old.stopped ≡ 0 }
     requires stamp { D.next_stamp core.old.device < 2 ^ 62 }
     ensures stages { StagesOn D.Counts worker line call.now core.old core.new result }
@@ -77,13 +77,13 @@ fn stage_page<D: MovingPages>(
     tag: Tag,
     page: &mut PageBuf,
 ) -> Stage
-    requires stands { StandsWithLine D.Counts worker line call.now core.old }
+    requires stands { RepresentsWithLine D.Counts worker line call.now core.old }
     requires known { worker < 8 }
     requires some { 0 < line }
-    requires line { HasLine core.old.flight worker line }
+    requires line { HasLineOrNone core.old.flight worker line }
     requires writes { core.old.stopped ≡ 0 }
     requires stamp { D.next_stamp core.old.device < 2 ^ 62 }
-    requires next { IsNext call.now (length (of_worker core.old.flight worker).pages) tag }
+    requires next { IsNextTag call.now (length (of_worker core.old.flight worker).pages) tag }
     ensures stages { StagesOn D.Counts worker line call.now core.old core.new result }
     ensures not_stopped { result ≢ Stage.Stopped }
     ensures not_whole { result ≢ Stage.Whole }
@@ -106,11 +106,11 @@ fn stage_page<D: MovingPages>(
 
 /// Frees pages in flight of another line of the worker.
 pub fn leave_other<D: MovingPages>(core: &mut Core<D>, worker: u8, line: u32)
-    requires stands { Stands D.Counts core.old }
+    requires stands { RepresentsSome D.Counts core.old }
     requires known { worker < 8 }
     requires some { 0 < line }
     ensures passes { PassesOn D.Counts worker line core.old core.new }
-    ensures line { HasLine core.new.flight worker line }
+    ensures line { HasLineOrNone core.new.flight worker line }
     ensures staged { staged_indexes core.new.flight worker line ≡ staged_indexes core.old.flight worker line }
     ensures stopped { core.new.stopped ≡ core.old.stopped }
     ensures stamp { D.next_stamp core.new.device ≡ D.next_stamp core.old.device }

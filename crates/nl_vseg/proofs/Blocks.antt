@@ -8,7 +8,7 @@ use Rattle.nl_blocks.specs.Table.{BlockRow, Table, HasBlock, block_at, in_state,
 use Rattle.nl_blocks.proofs.TableLaws.{sum_by-with_block}
 use Rattle.nl_vseg.specs.Layout.{block_is_free}
 use Rattle.nl_vseg.proofs.Passing.{some_passes}
-use Rattle.nl_vseg.specs.Copying.{SameUse, Restated}
+use Rattle.nl_vseg.specs.Copying.{SameFreeBlocks, SetsFree}
 
 pub has_block : (t : Table) (block : ℕ) → t.first ≡ 0 → block < length t.blocks → HasBlock t block
 has_block t block first within = record { from = omega (arith, first); below = omega (arith, first, within) }
@@ -18,7 +18,7 @@ pub other_row : (t : Table) (block other : ℕ) (row : BlockRow) → t.first ≡
 other_row t block other row first ne = get_or-set_other t.blocks (block - t.first) (other - t.first) row no_row (λ same. ne (omega (arith, same, first)))
 
 -- the table is over one block
-pub restated : (t : Table) (block : ℕ) (row : BlockRow) → t.first ≡ 0 → block < length t.blocks → Restated block (is_free row) t (with_block t block row)
+pub restated : (t : Table) (block : ℕ) (row : BlockRow) → t.first ≡ 0 → block < length t.blocks → SetsFree block (is_free row) t (with_block t block row)
 restated t block row first within = record {
   numbers = record { same_first = refl; same_size = refl; same_count = length-set t.blocks (block - t.first) row };
   here = ap is_free (get_or-set_same t.blocks (block - t.first) row no_row (omega (arith, first, within)));
@@ -27,7 +27,7 @@ restated t block row first within = record {
 }
 
 -- what was done to one block, twice
-pub restated_again : {block : ℕ} {was now : Bool} {a b c : Table} → Restated block was a b → Restated block now b c → Restated block now a c
+pub restated_again : {block : ℕ} {was now : Bool} {a b c : Table} → SetsFree block was a b → SetsFree block now b c → SetsFree block now a c
 restated_again {block} {was} {now} {a} {b} {c} first second = record {
   numbers = record {
     same_first = second.numbers.same_first ∙ first.numbers.same_first;
@@ -43,7 +43,7 @@ restated_again {block} {was} {now} {a} {b} {c} first second = record {
 }
 
 -- a block that is again what it was
-pub restated_same : {block : ℕ} {free : Bool} {a b : Table} → block_is_free a block ≡ free → Restated block free a b → SameUse a b
+pub restated_same : {block : ℕ} {free : Bool} {a b : Table} → block_is_free a block ≡ free → SetsFree block free a b → SameFreeBlocks a b
 restated_same {block} {free} {a} {b} was r = record {
   numbers = r.numbers;
   free = λ other. ⊎_elim
@@ -53,10 +53,10 @@ restated_same {block} {free} {a} {b} was r = record {
   total = let t : free_count b + cond free 1 0 ≡ free_count a + cond free 1 0 = ap (λ x. free_count b + cond x 1 0) (sym was) ∙ r.total in omega (arith, t);
 }
 
-pub same_use : (t : Table) → SameUse t t
+pub same_use : (t : Table) → SameFreeBlocks t t
 same_use t = record { numbers = record { same_first = refl; same_size = refl; same_count = refl }; free = λ block. refl; total = refl }
 
-pub same_then : {a b c : Table} → SameUse a b → SameUse b c → SameUse a c
+pub same_then : {a b c : Table} → SameFreeBlocks a b → SameFreeBlocks b c → SameFreeBlocks a c
 same_then first second = record {
   numbers = record {
     same_first = second.numbers.same_first ∙ first.numbers.same_first;
@@ -68,7 +68,7 @@ same_then first second = record {
 }
 
 -- a block was restated, and then the same blocks are Free
-pub restated_then : {block : ℕ} {free : Bool} {a b c : Table} → Restated block free a b → SameUse b c → Restated block free a c
+pub restated_then : {block : ℕ} {free : Bool} {a b c : Table} → SetsFree block free a b → SameFreeBlocks b c → SetsFree block free a c
 restated_then {block} {free} {a} {b} {c} first second = record {
   numbers = record {
     same_first = second.numbers.same_first ∙ first.numbers.same_first;
@@ -81,7 +81,7 @@ restated_then {block} {free} {a} {b} {c} first second = record {
 }
 
 -- a block was restated after the same use
-pub restated_after : {block : ℕ} {free : Bool} {a b c : Table} → SameUse a b → Restated block free b c → Restated block free a c
+pub restated_after : {block : ℕ} {free : Bool} {a b c : Table} → SameFreeBlocks a b → SetsFree block free b c → SetsFree block free a c
 restated_after {block} {free} {a} {b} {c} first second = record {
   numbers = record {
     same_first = second.numbers.same_first ∙ first.numbers.same_first;

@@ -3,20 +3,20 @@ use Rattle.std.proofs.Common.{◌≡◌, ℕ, ◌+◌, ◌*◌, ◌^◌, ◌<◌
 use Rattle.nl_field.specs.Page.{erased}
 use Rattle.nl_field.specs.declared.answers.VirtualWrite.{VirtualWrite}
 use Rattle.nl_blocks.specs.Table.{Table, free_count}
-use Rattle.nl_nand.specs.Nand.{CrashLeaves, IsLegal, Leaves, OperationCounted, block_start, block_end}
+use Rattle.nl_nand.specs.Nand.{CrashLeaves, IsLegal, OperationLeaves, OperationCounted, block_start, block_end}
 use Rattle.nl_nand.specs.declared.answers.WriteAnswer.{WriteAnswer}
 use Rattle.nl_nand.specs.declared.answers.WriteAnswer.TheVariants as write
 use Rattle.nl_nand.specs.declared.nand.Nand.{Ghosts}
-use Rattle.nl_vseg.specs.Answers.{LosesStamp}
-use Rattle.nl_vseg.specs.Cleaning.{KeepsValues, LosesUntold, StandsOn}
+use Rattle.nl_vseg.specs.Answers.{LosesPlaceStamp}
+use Rattle.nl_vseg.specs.Cleaning.{KeepsValues, LosesUntold, IsStateOfMedium}
 use Rattle.nl_vseg.specs.Copies.{CanCopy}
-use Rattle.nl_vseg.specs.Copying.{IsSettled, Restated, SameNumbers, SameUse}
+use Rattle.nl_vseg.specs.Copying.{IsSettled, SetsFree, SameNumbers, SameFreeBlocks}
 use Rattle.nl_vseg.specs.Effects.{KeepsMap}
-use Rattle.nl_vseg.specs.Layout.{HasSpare, IsLayout, IsLayoutOf, block_is_free, bound, closed, wears_of}
+use Rattle.nl_vseg.specs.Layout.{LayoutHasUnmapped, IsLayout, IsLayoutOf, block_is_free, bound, closed, wears_of}
 use Rattle.nl_vseg.specs.Operations.{wears_after}
-use Rattle.nl_vseg.specs.Places.{Holds, IsUnmapped, map_of, stamp_for}
-use Rattle.nl_vseg.specs.Seen.{seen, FitsLayout, IsFormed}
-use Rattle.nl_vseg.specs.Used.{AreRising, IsClosed, IsOpened, used_of}
+use Rattle.nl_vseg.specs.Places.{PlacesShow, IsUnmapped, map_of, stamp_for}
+use Rattle.nl_vseg.specs.Seen.{seen, FitsLayout, IsVirtualFormed}
+use Rattle.nl_vseg.specs.Used.{OpenBlocksAreRisen, IsClosed, IsUnusedBlock, used_of}
 use Rattle.nl_vseg.specs.declared.place.Place.{Place}
 use Rattle.nl_vseg.specs.declared.state.State.{State}
 use Rattle.nl_vseg.proofs.Copies.{closed_segment, free_spare, next_blank, widen}
@@ -36,7 +36,7 @@ abbrev pub with_active : State → Table → ℕ → State
 with_active s table block = record s { blocks = table; active = block }
 
 -- the state is formed where the same blocks are Free, and as many pages of the active one are used
-pub formed_numbered : (s : State) (table : Table) → SameUse s.blocks table → used_of table s.active ≡ used_of s.blocks s.active → AreRising table → IsFormed s → IsFormed (with_table s table)
+pub formed_numbered : (s : State) (table : Table) → SameFreeBlocks s.blocks table → used_of table s.active ≡ used_of s.blocks s.active → OpenBlocksAreRisen table → IsVirtualFormed s → IsVirtualFormed (with_table s table)
 formed_numbered s table same used rising formed = record {
   segment = numbered (seen s) table same used formed.segment;
   rising = rising;
@@ -45,8 +45,8 @@ formed_numbered s table same used rising formed = record {
 }
 
 -- a state is formed where a Free block is the active one now
-pub formed_opened : (s : State) (table : Table) (block : ℕ) → IsFormed s → block < length s.blocks.blocks → block_is_free s.blocks block ≡ true → Restated block false s.blocks table → IsOpened block s.blocks table
-    → IsFormed (with_active s table block)
+pub formed_opened : (s : State) (table : Table) (block : ℕ) → IsVirtualFormed s → block < length s.blocks.blocks → block_is_free s.blocks block ≡ true → SetsFree block false s.blocks table → IsUnusedBlock block s.blocks table
+    → IsVirtualFormed (with_active s table block)
 formed_opened s table block formed within free taken used = record {
   segment = subst (λ n. IsLayout (record (seen s) { table = table; active = block; used = n })) (sym used.none) (opened (seen s) table block formed.segment within free taken);
   rising = used.rising formed.rising;
@@ -55,13 +55,13 @@ formed_opened s table block formed within free taken used = record {
 }
 
 -- each block in use is Sealed, so each page of the active one counts as used
-pub settled_used : (s : State) (table : Table) → IsFormed s → SameUse s.blocks table → IsSettled s.places.items table → used_of table s.active ≡ table.size
+pub settled_used : (s : State) (table : Table) → IsVirtualFormed s → SameFreeBlocks s.blocks table → IsSettled s.places.items table → used_of table s.active ≡ table.size
 settled_used s table formed same settled =
     settled_full s.places.items table (same.numbers.same_first ∙ formed.segment.first) settled s.active (subst (λ n. s.active < n) (sym same.numbers.same_count) formed.segment.active_is)
 
 module _ {M : Type 0} (g : Ghosts M) where
   -- what has to hold before a copy to the active block, of which no page is used
-  pub can_copy : {s : State} {m : M} (victim : ℕ) → IsLegal (g.geometry m) → (seen s).used ≡ 0 → (s.active ≡ victim → ⊥) → StandsOn g s m → CanCopy g s.blocks.size victim s.active s.places.items s.blocks m
+  pub can_copy : {s : State} {m : M} (victim : ℕ) → IsLegal (g.geometry m) → (seen s).used ≡ 0 → (s.active ≡ victim → ⊥) → IsStateOfMedium g s m → CanCopy g s.blocks.size victim s.active s.places.items s.blocks m
   can_copy {s} {m} victim legal begins other stands =
       let is = stands.formed.segment in
       record {
@@ -81,7 +81,7 @@ module _ {M : Type 0} (g : Ghosts M) where
       }
 
   -- the state stands on the medium with another table, as its segment does
-  pub stands_numbered : {s : State} {m : M} (table : Table) → SameUse s.blocks table → used_of table s.active ≡ used_of s.blocks s.active → AreRising table → StandsOn g s m → StandsOn g (with_table s table) m
+  pub stands_numbered : {s : State} {m : M} (table : Table) → SameFreeBlocks s.blocks table → used_of table s.active ≡ used_of s.blocks s.active → OpenBlocksAreRisen table → IsStateOfMedium g s m → IsStateOfMedium g (with_table s table) m
   stands_numbered {s} {m} table same used rising stands = record {
     formed = formed_numbered s table same used rising stands.formed;
     fits = fits_then _ _ (seen s) (seen (with_table s table)) refl same.numbers stands.fits;
@@ -89,13 +89,13 @@ module _ {M : Type 0} (g : Ghosts M) where
   }
 
   -- where each block in use is Sealed
-  pub stands_settled : {s : State} {m : M} (table : Table) → used_of s.blocks s.active ≡ s.blocks.size → SameUse s.blocks table → IsSettled s.places.items table → StandsOn g s m → StandsOn g (with_table s table) m
+  pub stands_settled : {s : State} {m : M} (table : Table) → used_of s.blocks s.active ≡ s.blocks.size → SameFreeBlocks s.blocks table → IsSettled s.places.items table → IsStateOfMedium g s m → IsStateOfMedium g (with_table s table) m
   stands_settled {s} {m} table full same settled stands =
       stands_numbered table same (settled_used s table stands.formed same settled ∙ (same.numbers.same_size ∙ sym full))
       (settled_rising s.places.items table (same.numbers.same_first ∙ stands.formed.segment.first) settled) stands
 
   -- where the active block is Sealed
-  pub stands_closed : {s : State} {m : M} (table : Table) → SameUse s.blocks table → IsClosed s.active s.blocks table → StandsOn g s m → StandsOn g (with_table s table) m
+  pub stands_closed : {s : State} {m : M} (table : Table) → SameFreeBlocks s.blocks table → IsClosed s.active s.blocks table → IsStateOfMedium g s m → IsStateOfMedium g (with_table s table) m
   stands_closed {s} {m} table same shut stands = record {
     formed = record {
       segment = numbered (closed (seen s)) table same (shut.full ∙ same.numbers.same_size) (closed_segment (seen s) s.blocks.size stands.formed.segment refl);
@@ -108,7 +108,7 @@ module _ {M : Type 0} (g : Ghosts M) where
   }
 
   -- where a block is Free, some block holds no page of the map
-  pub stands_spare : {s : State} {m : M} → StandsOn g s m → 1 ≤ free_count s.blocks → HasSpare (seen s)
+  pub stands_spare : {s : State} {m : M} → IsStateOfMedium g s m → 1 ≤ free_count s.blocks → LayoutHasUnmapped (seen s)
   stands_spare {s} {m} stands some = free_spare (seen s) stands.formed.segment some
 
   -- by another name of the failure
@@ -150,7 +150,7 @@ module _ {M : Type 0} (g : Ghosts M) where
   }
 
   -- nothing was done to the medium
-  pub values_still : {F : Type 0} (s u : State) {m : M} (spare : HasSpare (seen s)) → StandsOn g s m → StandsOn g u m → u.places.items ≡ s.places.items → SameNumbers s.blocks u.blocks
+  pub values_still : {F : Type 0} (s u : State) {m : M} (spare : LayoutHasUnmapped (seen s)) → IsStateOfMedium g s m → IsStateOfMedium g u m → u.places.items ≡ s.places.items → SameNumbers s.blocks u.blocks
       → wears_of u.blocks ≡ wears_of s.blocks → (F → ⊥) → KeepsValues g F s u m m
   values_still s u {m} spare before stands places n wears not = record {
     stands = stands;
@@ -164,13 +164,13 @@ module _ {M : Type 0} (g : Ghosts M) where
   }
 
   -- a block that holds no page of the map was erased, or that failed
-  pub values_erased : (s t : State) {old new : M} (block : ℕ) (answer : WriteAnswer) → IsFormed s → FitsLayout (g.geometry old) (seen s) → (g.tells → Holds (g.contents old) s.places.items)
+  pub values_erased : (s t : State) {old new : M} (block : ℕ) (answer : WriteAnswer) → IsVirtualFormed s → FitsLayout (g.geometry old) (seen s) → (g.tells → PlacesShow (g.contents old) s.places.items)
       → block < length s.blocks.blocks → IsUnmapped s.blocks.size s.places.items block
       → CrashLeaves g.clock g.contents g.left (block_start (g.geometry old) block) (block_end (g.geometry old) block) erased old new
-      → (g.tells → Leaves (block_start (g.geometry old) block) (block_end (g.geometry old) block) erased (g.contents old) answer (g.contents new))
+      → (g.tells → OperationLeaves (block_start (g.geometry old) block) (block_end (g.geometry old) block) erased (g.contents old) answer (g.contents new))
       → OperationCounted g.geometry g.clock g.read_faults g.write_faults old new answer
       → t.places.items ≡ s.places.items → SameNumbers s.blocks t.blocks → wears_of t.blocks ≡ wears_after answer block (wears_of s.blocks)
-      → IsFormed t → (g.tells → IsLayoutOf (g.contents new) (seen t)) → KeepsValues g (answer ≡ write.Failed) s t old new
+      → IsVirtualFormed t → (g.tells → IsLayoutOf (g.contents new) (seen t)) → KeepsValues g (answer ≡ write.Failed) s t old new
   values_erased s t {old} {new} block answer formed fits holds within unmapped crash effect counted places n wears formed_then segment = record {
     stands = record { formed = formed_then; fits = fits_then _ _ (seen s) (seen t) counted.same_geometry n fits; segment = segment };
     shape = shape_of (seen s) (seen t) (ap length places) n;
@@ -178,11 +178,11 @@ module _ {M : Type 0} (g : Ghosts M) where
     map = λ told. subst (λ (l : List (Option Place)). KeepsMap g.clock g.contents g.left s.blocks.size (bound (seen s)) (map_of s.places.items (g.contents old)) (map_of l (g.contents new)) old new) (sym places)
         (erase_keeps block (g.geometry old).pages s.blocks.size (length s.blocks.blocks) s.places.items answer fits.pages within (holds told) (below_of (seen s) formed.segment) unmapped crash (effect told));
     operates = operates_block s.blocks.size block answer (wears_of s.blocks) (wears_of t.blocks) _ _ _ _ wears counted.ticks
-        (λ told. subst (λ k. Leaves (block * k) (block * k + k) erased (g.contents old) answer (g.contents new)) fits.pages (effect told));
+        (λ told. subst (λ k. OperationLeaves (block * k) (block * k + k) erased (g.contents old) answer (g.contents new)) fits.pages (effect told));
     geometry = counted.same_geometry;
     counts = counted_write answer crash.later counted.same_read_faults counted.failures;
   }
 
 -- what is lost of the same places
 pub loses_as : {told : Type 0} {old new : List (Option Place)} {answer : VirtualWrite} → new ≡ old → LosesUntold told new answer → LosesUntold told old answer
-loses_as {told} {old} {new} {answer} same l = record { lost = subst (λ (x : List (Option Place)). LosesStamp x answer) same l.lost; kept = l.kept }
+loses_as {told} {old} {new} {answer} same l = record { lost = subst (λ (x : List (Option Place)). LosesPlaceStamp x answer) same l.lost; kept = l.kept }

@@ -8,11 +8,11 @@ use Rattle.nl_nand.specs.Nand.{ErasedWithin}
 use Rattle.nl_nand.specs.declared.geometry.Geometry.{Geometry}
 use Rattle.nl_nand.specs.declared.nand.Nand.{Ghosts}
 use Rattle.nl_nand.proofs.Crashes.{then}
-use Rattle.nl_vseg.specs.Copies.{CanCopy, HasCopied, UsesMore, ChangesIn, CopiesTo}
-use Rattle.nl_vseg.specs.Copying.{SameUse}
+use Rattle.nl_vseg.specs.Copies.{CanCopy, HasCopiedPlace, UsesMore, ChangesIn, CopiesTo}
+use Rattle.nl_vseg.specs.Copying.{SameFreeBlocks}
 use Rattle.nl_vseg.specs.Layout.{ArePlaces, wears_of}
-use Rattle.nl_vseg.specs.Places.{Holds}
-use Rattle.nl_vseg.specs.Used.{AreRising, UsesNext, used_of}
+use Rattle.nl_vseg.specs.Places.{PlacesShow}
+use Rattle.nl_vseg.specs.Used.{OpenBlocksAreRisen, UsesNext, used_of}
 use Rattle.nl_vseg.specs.declared.place.Place.{Place}
 use Rattle.nl_vseg.proofs.Blocks.{same_then, same_use}
 use Rattle.nl_vseg.proofs.Counts.{counted_start, counted_then}
@@ -20,11 +20,11 @@ use Rattle.nl_vseg.proofs.Operating.{operates_both, operates_none}
 use Rattle.nl_vseg.proofs.Small.{done_fault, le_same}
 
 -- no page more is used
-pub uses_none : (pages block : ℕ) (table : Table) → used_of table block < pages → AreRising table → UsesMore pages block table table
+pub uses_none : (pages block : ℕ) (table : Table) → used_of table block < pages → OpenBlocksAreRisen table → UsesMore pages block table table
 uses_none pages block table left rising = record { left = left; more = le_same (used_of table block); rising = rising; states = same_use table; wears = refl }
 
 -- the next page is used
-pub uses_next : (pages block : ℕ) {old new : Table} → used_of old block + 1 < pages → UsesNext block old new → SameUse old new → wears_of new ≡ wears_of old → UsesMore pages block old new
+pub uses_next : (pages block : ℕ) {old new : Table} → used_of old block + 1 < pages → UsesNext block old new → SameFreeBlocks old new → wears_of new ≡ wears_of old → UsesMore pages block old new
 uses_next pages block {old} {new} left next states wears = record {
   left = let more = next.more in omega (arith, left, more);
   more = let more = next.more in omega (arith, more);
@@ -45,9 +45,9 @@ uses_then first second = record {
 module _ {M : Type 0} (g : Ghosts M) where
   -- what has to hold before the next copy
   pub can_next : {pages victim target : ℕ} {was places : List (Option Place)} {before after : Table} {old new : M} → CanCopy g pages victim target was before old
-      → g.geometry new ≡ g.geometry old → SameUse before after → AreRising after → length places ≡ length was
+      → g.geometry new ≡ g.geometry old → SameFreeBlocks before after → OpenBlocksAreRisen after → length places ≡ length was
       → ArePlaces pages ((g.geometry old).blocks * pages) target (used_of after target) places
-      → (g.tells → Holds (g.contents new) places)
+      → (g.tells → PlacesShow (g.contents new) places)
       → (g.tells → ErasedWithin (g.contents new) (target * pages + used_of after target) (target * pages + pages))
       → CanCopy g pages victim target places after new
   can_next {pages} {victim} {target} {was} {places} {before} {after} {old} {new} can same states rising count are holds erased = record {
@@ -66,8 +66,8 @@ module _ {M : Type 0} (g : Ghosts M) where
     erased = erased;
   }
 
-  pub copied_then : {pages victim target : ℕ} {first second third : List (Option Place)} {before after : Table} {a b c : M} → HasCopied g pages victim target first second before a b
-      → HasCopied g pages victim target second third after b c → HasCopied g pages victim target first third after a c
+  pub copied_then : {pages victim target : ℕ} {first second third : List (Option Place)} {before after : Table} {a b c : M} → HasCopiedPlace g pages victim target first second before a b
+      → HasCopiedPlace g pages victim target second third after b c → HasCopiedPlace g pages victim target first third after a c
   copied_then one two = record { next = two.next; map = λ t v. two.map t v ∙ one.map t v }
 
   pub changes_then : {pages target : ℕ} {places : List (Option Place)} {image : Image} {a b c : M} → ChangesIn g pages target places image a b

@@ -9,10 +9,10 @@ use Rattle.nl_field.specs.Page.{Page, erased, Image, page_at}
 use Rattle.nl_nand.specs.Nand.{CanProgram, Cut, ErasedWithin}
 use Rattle.nl_nand.proofs.Crashes.{weaken}
 use Rattle.nl_vseg.specs.Pages.{Fact, fact_of, main_of, IsBeside}
-use Rattle.nl_vseg.specs.Places.{place_of, value_at, map_of, AreBelow, Holds, IsUnmapped}
-use Rattle.nl_vseg.specs.Layout.{Layout, bound, block_is_free, ArePlaces, IsLayout, IsLayoutOf, HasSpare, SameShape, TakenAsErased, room}
+use Rattle.nl_vseg.specs.Places.{place_of, value_at, map_of, AreBelow, PlacesShow, IsUnmapped}
+use Rattle.nl_vseg.specs.Layout.{Layout, bound, block_is_free, ArePlaces, IsLayout, IsLayoutOf, LayoutHasUnmapped, SameLayoutShape, LayoutTakesAsErased, room}
 use Rattle.nl_vseg.specs.Copying.{is_some, target_at, copy_of, AreTargets, ChangedIn, AreMoved, HasHole, IsAt, LeavesHole}
-use Rattle.nl_vseg.specs.Effects.{Keeps, KeepsMap}
+use Rattle.nl_vseg.specs.Effects.{ImageKeepsMap, KeepsMap}
 use Rattle.nl_vseg.specs.declared.place.Place.{Place}
 use Rattle.nl_vseg.proofs.Passing.{one_passes, not_all_pass}
 use Rattle.nl_vseg.proofs.Places.{same_page, block_of, block_below, beside_of, place_here, place_other, set_place, used_more}
@@ -118,7 +118,7 @@ hole_left {pages} {victim} {targets} {first} v n some hole sources = record {
     at_hole (Some page) is = let s = sources (hole.page % pages) page is in absurd (not_hole s.0 s.2)
 
 -- a page that was copied is not that of another address
-pub fresh_page : (pages victim : ℕ) (targets : List (Option ℕ)) (first : List (Option Place)) (image : Image) (v : ℕ) → Holds image first
+pub fresh_page : (pages victim : ℕ) (targets : List (Option ℕ)) (first : List (Option Place)) (image : Image) (v : ℕ) → PlacesShow image first
     → ((at page : ℕ) → target_at targets at ≡ Some page → (u : ℕ) × (u < v) × IsAt pages victim at (place_of first u))
     → (at page : ℕ) → target_at targets at ≡ Some page → IsAt pages victim at (place_of first v) → ⊥
 fresh_page pages victim targets first image v holds sources at page copied is =
@@ -130,7 +130,7 @@ fresh_page pages victim targets first image v holds sources at page copied is =
     omega (arith, s.1, u_is)
 
 module _ (pages target used to v : ℕ) (place : Place) (copies : List (Option Place)) (old c : Image) (at : to ≡ target * pages + used) (room : used < pages) (within : v < length copies)
-    (named : place_of copies v ≡ Some place) (holds : Holds old copies) (erased_is : ErasedWithin old (target * pages + used) (target * pages + pages)) (w : ℕ) where
+    (named : place_of copies v ≡ Some place) (holds : PlacesShow old copies) (erased_is : ErasedWithin old (target * pages + used) (target * pages + pages)) (w : ℕ) where
   to_blank : page_at old to ≡ erased
   to_blank = erased_is to (omega (arith, at)) (omega (arith, at, room))
 
@@ -142,7 +142,7 @@ module _ (pages target used to v : ℕ) (place : Place) (copies : List (Option P
     place_stays u q there = stays q.page (λ is. shows_nothing (page_at old q.page) (u, q.stamp, main_of (page_at old q.page)) (ap (page_at old) is ∙ to_blank) (holds u q there))
 
     module _ (new_is : page_at c to ≡ copy_of (page_at old place.page) v place.stamp w) (copied : fact_of (copy_of (page_at old place.page) v place.stamp w) ≡ fact_of (page_at old place.page)) where
-      pub copied_holds : Holds c (set copies v (Some (record { page = to; stamp = place.stamp })))
+      pub copied_holds : PlacesShow c (set copies v (Some (record { page = to; stamp = place.stamp })))
       copied_holds u q there = at_place u q (set_place copies v (record { page = to; stamp = place.stamp }) within u q there)
         where
           at_place : (u : ℕ) (q : Place) → ((u ≡ v) × (◌≡◌ {A = Place} (record { page = to; stamp = place.stamp }) q)) ⊎ ((u ≡ v → ⊥) × (place_of copies u ≡ Some q))
@@ -209,7 +209,7 @@ moved_unmapped pages victim target used old new ne fits moved v place named = �
     (moved.each v place named)
 
 -- an image of the segment with the copies
-pub moved_image : (seg : Layout) (copies : List (Option Place)) (used : ℕ) (old c : Image) → IsLayout seg → seg.used < seg.table.size → IsLayoutOf old seg → Holds c copies
+pub moved_image : (seg : Layout) (copies : List (Option Place)) (used : ℕ) (old c : Image) → IsLayout seg → seg.used < seg.table.size → IsLayoutOf old seg → PlacesShow c copies
     → ErasedWithin c (seg.active * seg.table.size + used) (seg.active * seg.table.size + seg.table.size)
     → ((p : ℕ) → IsBeside seg.table.size seg.active p → page_at c p ≡ page_at old p) → IsLayoutOf c (record seg { places = copies; used = used })
 moved_image seg copies used old c is room seg_is holds blank same = record {
@@ -222,16 +222,16 @@ moved_image seg copies used old c is room seg_is holds blank same = record {
 
 -- changes in a block without a page of the map, of which nothing is taken as erased
 pub given_image : (seg new : Layout) (old c : Image) → new.places ≡ seg.places → IsUnmapped seg.table.size seg.places seg.active → IsLayoutOf old seg
-    → ((p : ℕ) → TakenAsErased new p → TakenAsErased seg p × (p / seg.table.size ≡ seg.active → ⊥))
+    → ((p : ℕ) → LayoutTakesAsErased new p → LayoutTakesAsErased seg p × (p / seg.table.size ≡ seg.active → ⊥))
     → ((p : ℕ) → IsBeside seg.table.size seg.active p → page_at c p ≡ page_at old p) → IsLayoutOf c new
 given_image seg new old c places unmapped seg_is taken same = record {
-  holds = subst (Holds c) (sym places) (holds_same seg.places old c seg_is.holds (λ v place named. same place.page (unmapped v place named)));
+  holds = subst (PlacesShow c) (sym places) (holds_same seg.places old c seg_is.holds (λ v place named. same place.page (unmapped v place named)));
   blank = λ p t. let e = taken p t in same p (beside_of p seg.table.size seg.active e.1) ∙ seg_is.blank p e.0;
 }
 
 -- the copies, or what there is of them, leave the map
 pub changed_keeps : {M : Type 0} {clock : M → ℕ} {contents : M → Image} {left : M → ℕ → Image → Type 0} {old new : M} (pages count block : ℕ) (places : List (Option Place)) (map_new : ℕ → Option (ℕ × List ℕ))
-    → block < count → Holds (contents old) places → AreBelow (count * pages) places → IsUnmapped pages places block
+    → block < count → PlacesShow (contents old) places → AreBelow (count * pages) places → IsUnmapped pages places block
     → ((v : ℕ) → map_new v ≡ map_of places (contents old) v)
     → ChangedIn pages block places (contents old) (contents new)
     → LeavesOnly clock left old new (λ m c. ChangedIn pages block places (contents old) c)
@@ -239,7 +239,7 @@ pub changed_keeps : {M : Type 0} {clock : M → ℕ} {contents : M → Image} {l
 changed_keeps {M} {clock} {contents} {left} {old} {new} pages count block places map_new within holds below unmapped same changed crash = record {
   same = same;
   keeps = keeps_changed pages (count * pages) places (contents old) holds below block (block_below block count pages within) unmapped (contents new) changed;
-  crash = weaken (λ m c. ChangedIn pages block places (contents old) c) (λ m c. Keeps pages (count * pages) (map_of places (contents old)) (contents old) c) crash
+  crash = weaken (λ m c. ChangedIn pages block places (contents old) c) (λ m c. ImageKeepsMap pages (count * pages) (map_of places (contents old)) (contents old) c) crash
       (λ m c from to is. keeps_changed pages (count * pages) places (contents old) holds below block (block_below block count pages within) unmapped c is);
 }
 
@@ -286,11 +286,11 @@ closed_segment seg used is full = record {
 }
 
 -- what is taken as erased beside the active block, whatever is used of that
-pub taken_beside : (seg : Layout) (used : ℕ) (p : ℕ) → TakenAsErased (record seg { used = used }) p → (p / seg.table.size ≡ seg.active → ⊥) → TakenAsErased seg p
+pub taken_beside : (seg : Layout) (used : ℕ) (p : ℕ) → LayoutTakesAsErased (record seg { used = used }) p → (p / seg.table.size ≡ seg.active → ⊥) → LayoutTakesAsErased seg p
 taken_beside seg used p taken ne = (taken.0, ⊎_elim (λ next. absurd (ne (block_of p seg.table.size seg.active (omega (arith, next.0)) next.1))) (λ free. inr free) taken.1)
 
 -- where a block is Free, some block holds no page of the map
-pub free_spare : (seg : Layout) → IsLayout seg → 1 ≤ free_count seg.table → HasSpare seg
+pub free_spare : (seg : Layout) → IsLayout seg → 1 ≤ free_count seg.table → LayoutHasUnmapped seg
 free_spare seg is some =
     let free = some_free seg.table is.first some in
     record { block = free.0; within = free.1; unmapped = free_unmapped seg is free.0 free.2 }
@@ -329,5 +329,5 @@ opened_room old new full two begins size less =
     omega (arith, was, is, product, same, full, begins, size)
 
 -- what holds with the numbers of one segment holds with those of another of its shape
-pub resized : (P : ℕ → ℕ → Type 0) (old new : Layout) → SameShape old new → P new.table.size (bound new) → P old.table.size (bound old)
+pub resized : (P : ℕ → ℕ → Type 0) (old new : Layout) → SameLayoutShape old new → P new.table.size (bound new) → P old.table.size (bound old)
 resized P old new same is = subst (λ n. P n (bound old)) same.pages (subst (P new.table.size) (λ i. same.blocks i * same.pages i) is)

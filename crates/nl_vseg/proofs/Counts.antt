@@ -6,7 +6,7 @@ use Rattle.nl_nand.specs.Nand.{FaultsCounted, ticked}
 use Rattle.nl_nand.specs.declared.answers.WriteAnswer.{WriteAnswer}
 use Rattle.nl_nand.specs.declared.answers.WriteAnswer.TheVariants as write
 use Rattle.nl_nand.proofs.Crashes.{weaken, then, turns_later}
-use Rattle.nl_vseg.specs.Effects.{Keeps, Takes, KeepsMap, Counted}
+use Rattle.nl_vseg.specs.Effects.{ImageKeepsMap, GainsValue, KeepsMap, CallIsCounted}
 
 rose_later : (a b d : ℕ) → b ≡ a → Rose b d → Rose a d
 rose_later a b d same rose = omega (arith, same, rose)
@@ -21,7 +21,7 @@ ticked_done old new tick below = omega (arith, tick, below)
 
 module _ {M : Type 0} {clock read_faults write_faults : M → ℕ} where
   -- nothing was called
-  pub counted_start : (s : M) {F : Type 0} → (F → ⊥) → Counted clock read_faults write_faults s s F
+  pub counted_start : (s : M) {F : Type 0} → (F → ⊥) → CallIsCounted clock read_faults write_faults s s F
   counted_start s never = record {
     later = omega arith;
     more_reads = omega arith;
@@ -31,7 +31,7 @@ module _ {M : Type 0} {clock read_faults write_faults : M → ℕ} where
   }
 
   -- another name for the failure
-  pub counted_as : {old new : M} {F G : Type 0} → (F → G) → (G → F) → Counted clock read_faults write_faults old new F → Counted clock read_faults write_faults old new G
+  pub counted_as : {old new : M} {F G : Type 0} → (F → G) → (G → F) → CallIsCounted clock read_faults write_faults old new F → CallIsCounted clock read_faults write_faults old new G
   counted_as to from c = record {
     later = c.later;
     more_reads = c.more_reads;
@@ -41,7 +41,7 @@ module _ {M : Type 0} {clock read_faults write_faults : M → ℕ} where
   }
 
   -- a call that did not fail, and then another
-  pub counted_then : {a b d : M} {F G : Type 0} → (F → ⊥) → Counted clock read_faults write_faults a b F → Counted clock read_faults write_faults b d G → Counted clock read_faults write_faults a d G
+  pub counted_then : {a b d : M} {F G : Type 0} → (F → ⊥) → CallIsCounted clock read_faults write_faults a b F → CallIsCounted clock read_faults write_faults b d G → CallIsCounted clock read_faults write_faults a d G
   counted_then {a} {b} {d} not first second = record {
     later = omega (arith, first.later, second.later);
     more_reads = omega (arith, first.more_reads, second.more_reads);
@@ -55,7 +55,7 @@ module _ {M : Type 0} {clock read_faults write_faults : M → ℕ} where
 
   -- a program or an erase
   pub counted_write : {old new : M} (answer : WriteAnswer) → clock old ≤ clock new → read_faults new ≡ read_faults old
-      → FaultsCounted (write_faults old) (write_faults new) (answer ≡ write.Failed) → Counted clock read_faults write_faults old new (answer ≡ write.Failed)
+      → FaultsCounted (write_faults old) (write_faults new) (answer ≡ write.Failed) → CallIsCounted clock read_faults write_faults old new (answer ≡ write.Failed)
   counted_write answer later reads writes = record {
     later = later;
     more_reads = omega (arith, reads);
@@ -66,7 +66,7 @@ module _ {M : Type 0} {clock read_faults write_faults : M → ℕ} where
 
   -- a read
   pub counted_read : {old new : M} {F : Type 0} → clock new ≡ clock old → FaultsCounted (read_faults old) (read_faults new) F → write_faults new ≡ write_faults old
-      → Counted clock read_faults write_faults old new F
+      → CallIsCounted clock read_faults write_faults old new F
   counted_read same reads writes = record {
     later = omega (arith, same);
     more_reads = reads.never_falls;
@@ -76,8 +76,8 @@ module _ {M : Type 0} {clock read_faults write_faults : M → ℕ} where
   }
 
 -- what is kept after a step that kept the map is kept from before
-pub keeps_from : {pages bound : ℕ} {first second : ℕ → Option (ℕ × List ℕ)} {a b c : Image} → ((v : ℕ) → second v ≡ first v) → Keeps pages bound first a b
-    → Keeps pages bound second b c → Keeps pages bound first a c
+pub keeps_from : {pages bound : ℕ} {first second : ℕ → Option (ℕ × List ℕ)} {a b c : Image} → ((v : ℕ) → second v ≡ first v) → ImageKeepsMap pages bound first a b
+    → ImageKeepsMap pages bound second b c → ImageKeepsMap pages bound first a c
 keeps_from same before k = record {
   spare = k.spare;
   within = k.within;
@@ -86,8 +86,8 @@ keeps_from same before k = record {
   beyond = λ p above. k.beyond p above ∙ before.beyond p above;
 }
 
-pub takes_from : {pages bound v s : ℕ} {main : List ℕ} {first second : ℕ → Option (ℕ × List ℕ)} {a b c : Image} → ((u : ℕ) → second u ≡ first u) → Keeps pages bound first a b
-    → Takes pages bound second v s main b c → Takes pages bound first v s main a c
+pub takes_from : {pages bound v s : ℕ} {main : List ℕ} {first second : ℕ → Option (ℕ × List ℕ)} {a b c : Image} → ((u : ℕ) → second u ≡ first u) → ImageKeepsMap pages bound first a b
+    → GainsValue pages bound second v s main b c → GainsValue pages bound first v s main a c
 takes_from same before k = record {
   spare = k.spare;
   within = k.within;
@@ -104,27 +104,27 @@ module _ {M : Type 0} {clock : M → ℕ} {contents : M → Image} {left : M →
   keeps_then {m0} {m1} {m2} {a} {b} {d} first second = record {
     same = λ v. second.same v ∙ first.same v;
     keeps = keeps_from first.same first.keeps second.keeps;
-    crash = then (λ m c. Keeps pages bound m0 (contents a) c) first.crash
-        (weaken (λ m c. Keeps pages bound m1 (contents b) c) (λ m c. Keeps pages bound m0 (contents a) c) second.crash (λ m c from to k. keeps_from first.same first.keeps k));
+    crash = then (λ m c. ImageKeepsMap pages bound m0 (contents a) c) first.crash
+        (weaken (λ m c. ImageKeepsMap pages bound m1 (contents b) c) (λ m c. ImageKeepsMap pages bound m0 (contents a) c) second.crash (λ m c from to k. keeps_from first.same first.keeps k));
   }
 
   -- calls that leave the map, and then one that turns it
   pub keeps_turns : {m0 m1 : ℕ → Option (ℕ × List ℕ)} {v s : ℕ} {main : List ℕ} {a b d : M} (finished : Type 0) → KeepsMap clock contents left pages bound m0 m1 a b
-      → LeavesOnly clock left b d (Turns finished (clock d) (λ c. Keeps pages bound m1 (contents b) c) (λ c. Takes pages bound m1 v s main (contents b) c))
+      → LeavesOnly clock left b d (Turns finished (clock d) (λ c. ImageKeepsMap pages bound m1 (contents b) c) (λ c. GainsValue pages bound m1 v s main (contents b) c))
       → (finished → Earlier (clock b) (clock d))
-      → LeavesOnly clock left a d (Turns finished (clock d) (λ c. Keeps pages bound m0 (contents a) c) (λ c. Takes pages bound m0 v s main (contents a) c))
+      → LeavesOnly clock left a d (Turns finished (clock d) (λ c. ImageKeepsMap pages bound m0 (contents a) c) (λ c. GainsValue pages bound m0 v s main (contents a) c))
   keeps_turns {m0} {m1} {v} {s} {main} {a} {b} {d} finished first second strict =
-      turns_later finished (λ c. Keeps pages bound m0 (contents a) c) (λ c. Takes pages bound m0 v s main (contents a) c) first.crash
-      (weaken (Turns finished (clock d) (λ c. Keeps pages bound m1 (contents b) c) (λ c. Takes pages bound m1 v s main (contents b) c))
-      (Turns finished (clock d) (λ c. Keeps pages bound m0 (contents a) c) (λ c. Takes pages bound m0 v s main (contents a) c)) second
+      turns_later finished (λ c. ImageKeepsMap pages bound m0 (contents a) c) (λ c. GainsValue pages bound m0 v s main (contents a) c) first.crash
+      (weaken (Turns finished (clock d) (λ c. ImageKeepsMap pages bound m1 (contents b) c) (λ c. GainsValue pages bound m1 v s main (contents b) c))
+      (Turns finished (clock d) (λ c. ImageKeepsMap pages bound m0 (contents a) c) (λ c. GainsValue pages bound m0 v s main (contents a) c)) second
       (λ m c from to is. ⊎_elim (λ k. inl (k.0, keeps_from first.same first.keeps k.1)) (λ t. inr (takes_from first.same first.keeps t)) is))
       strict
 
   -- calls that leave the map, where the next one was not to come
   pub keeps_no_turn : {m0 m1 : ℕ → Option (ℕ × List ℕ)} {v s : ℕ} {main : List ℕ} {a d : M} (finished : Type 0) → (finished → ⊥) → KeepsMap clock contents left pages bound m0 m1 a d
-      → LeavesOnly clock left a d (Turns finished (clock d) (λ c. Keeps pages bound m0 (contents a) c) (λ c. Takes pages bound m0 v s main (contents a) c))
+      → LeavesOnly clock left a d (Turns finished (clock d) (λ c. ImageKeepsMap pages bound m0 (contents a) c) (λ c. GainsValue pages bound m0 v s main (contents a) c))
   keeps_no_turn {m0} {m1} {v} {s} {main} {a} {d} finished not first =
-      weaken (λ m c. Keeps pages bound m0 (contents a) c) (Turns finished (clock d) (λ c. Keeps pages bound m0 (contents a) c) (λ c. Takes pages bound m0 v s main (contents a) c)) first.crash
+      weaken (λ m c. ImageKeepsMap pages bound m0 (contents a) c) (Turns finished (clock d) (λ c. ImageKeepsMap pages bound m0 (contents a) c) (λ c. GainsValue pages bound m0 v s main (contents a) c)) first.crash
       (λ m c from to k. inl ((λ f. absurd (not f)), k))
 
 -- the turn by another name of what is finished

@@ -5,10 +5,10 @@ use Rattle.std.proofs.lemmas.Option.{none-some, same_Some}
 use Rattle.nl_field.specs.Page.{Page, erased, uncorrectable, Image, page_at}
 use Rattle.nl_nand.specs.Nand.{Cut}
 use Rattle.nl_nand.proofs.Crashes.{outside}
-use Rattle.nl_vseg.specs.Pages.{Fact, fact_of, main_of, Shows, IsBeside}
-use Rattle.nl_vseg.specs.Places.{place_of, value_at, map_of, Holds, AreBelow, IsUnmapped}
+use Rattle.nl_vseg.specs.Pages.{Fact, fact_of, main_of, PageShows, IsBeside}
+use Rattle.nl_vseg.specs.Places.{place_of, value_at, map_of, PlacesShow, AreBelow, IsUnmapped}
 use Rattle.nl_vseg.specs.Copying.{IsCopy, ChangedIn}
-use Rattle.nl_vseg.specs.Effects.{Keeps, Takes}
+use Rattle.nl_vseg.specs.Effects.{ImageKeepsMap, GainsValue}
 use Rattle.nl_vseg.specs.declared.place.Place.{Place}
 
 -- a page that shows something is not erased
@@ -26,7 +26,7 @@ cut_fact {low} {high} {value} {old} {c} cut p f shows = elim (cut.each p) [
   ]
 ]
 
-module _ (pages bound : ℕ) (places : List (Option Place)) (old : Image) (holds : Holds old places) (below : AreBelow bound places) where
+module _ (pages bound : ℕ) (places : List (Option Place)) (old : Image) (holds : PlacesShow old places) (below : AreBelow bound places) where
   -- what the map has is at a place
   pub at_place : (v s : ℕ) (main : List ℕ) (x : Option Place) → place_of places v ≡ x → value_at old x ≡ Some (s, main)
       → (place : Place) × (place_of places v ≡ Some place) × (fact_of (page_at old place.page) ≡ Some (v, s, main))
@@ -38,9 +38,9 @@ module _ (pages bound : ℕ) (places : List (Option Place)) (old : Image) (holds
   -- where the pages of the map stay, and nothing new is shown
   pub keeps_beside : (block : ℕ) → block * pages + pages ≤ bound → IsUnmapped pages places block → (c : Image)
       → ((v : ℕ) (place : Place) → place_of places v ≡ Some place → page_at c place.page ≡ page_at old place.page)
-      → ((v t : ℕ) (n : List ℕ) → Shows bound c v t n → Shows bound old v t n)
+      → ((v t : ℕ) (n : List ℕ) → PageShows bound c v t n → PageShows bound old v t n)
       → ((p : ℕ) → bound ≤ p → page_at c p ≡ page_at old p)
-      → Keeps pages bound (map_of places old) old c
+      → ImageKeepsMap pages bound (map_of places old) old c
   keeps_beside block within unmapped c same no_more beyond = record {
     spare = block;
     within = within;
@@ -52,12 +52,12 @@ module _ (pages bound : ℕ) (places : List (Option Place)) (old : Image) (holds
   }
 
   -- nothing changed
-  pub keeps_same : (block : ℕ) → block * pages + pages ≤ bound → IsUnmapped pages places block → Keeps pages bound (map_of places old) old old
+  pub keeps_same : (block : ℕ) → block * pages + pages ≤ bound → IsUnmapped pages places block → ImageKeepsMap pages bound (map_of places old) old old
   keeps_same block within unmapped = keeps_beside block within unmapped old (λ v place named. refl) (λ v t n shows. shows) (λ p above. refl)
 
   -- an erase of a block without a page of the map
   pub keeps_erase : (block : ℕ) → block * pages + pages ≤ bound → IsUnmapped pages places block → (c : Image)
-      → Cut (block * pages) (block * pages + pages) erased old c → Keeps pages bound (map_of places old) old c
+      → Cut (block * pages) (block * pages + pages) erased old c → ImageKeepsMap pages bound (map_of places old) old c
   keeps_erase block within unmapped c cut = keeps_beside block within unmapped c
       (λ v place named. outside cut place.page (unmapped v place named))
       (λ v t n shows. ⊎_elim
@@ -68,14 +68,14 @@ module _ (pages bound : ℕ) (places : List (Option Place)) (old : Image) (holds
 
   -- changes in a block without a page of the map
   pub keeps_changed : (block : ℕ) → block * pages + pages ≤ bound → IsUnmapped pages places block → (c : Image) → ChangedIn pages block places old c
-      → Keeps pages bound (map_of places old) old c
+      → ImageKeepsMap pages bound (map_of places old) old c
   keeps_changed block within unmapped c changed = keeps_beside block within unmapped c
       (λ v place named. changed.same place.page (unmapped v place named))
       (λ v t n shows. shown v t n shows.0 shows.1 shows.2 (changed.each shows.0))
       (λ p above. changed.same p (inr (omega (arith, above, within))))
     where
       shown : (v t : ℕ) (n : List ℕ) (p : ℕ) → p < bound → fact_of (page_at c p) ≡ Some (v, t, n)
-          → (page_at c p ≡ page_at old p) ⊎ ((fact_of (page_at c p) ≡ None) ⊎ IsCopy places old (page_at c p)) → Shows bound old v t n
+          → (page_at c p ≡ page_at old p) ⊎ ((fact_of (page_at c p) ≡ None) ⊎ IsCopy places old (page_at c p)) → PageShows bound old v t n
       shown v t n p p_below is (inl same) = (p, p_below, sym (ap fact_of same) ∙ is)
       shown v t n p p_below is (inr (inl nothing)) = absurd (none-some (v, t, n) (sym nothing ∙ is))
       shown v t n p p_below is (inr (inr copy)) = (copy.1.0.page, below copy.0 copy.1.0 copy.1.1.0, sym copy.1.1.1 ∙ is)
@@ -96,7 +96,7 @@ module _ (pages bound : ℕ) (places : List (Option Place)) (old : Image) (holds
     beyond p above = other p (λ is. absurd (omega (arith, is, above, at_below)))
 
     -- the page is there
-    pub takes_new : page_at c at ≡ value → Takes pages bound (map_of places old) v s main old c
+    pub takes_new : page_at c at ≡ value → GainsValue pages bound (map_of places old) v s main old c
     takes_new new = record {
       spare = spare;
       within = within;
@@ -117,7 +117,7 @@ module _ (pages bound : ℕ) (places : List (Option Place)) (old : Image) (holds
             (sym (ap (λ (x : Fact). x.0) e), sym (ap (λ (x : Fact). x.1) e), sym (ap (λ (x : Fact). x.2) e))
 
     -- the page shows nothing
-    pub keeps_none : ((f : Fact) → fact_of (page_at c at) ≡ Some f → ⊥) → Keeps pages bound (map_of places old) old c
+    pub keeps_none : ((f : Fact) → fact_of (page_at c at) ≡ Some f → ⊥) → ImageKeepsMap pages bound (map_of places old) old c
     keeps_none none = keeps_beside spare within unmapped c place_stays
         (λ u t n shown. elim (cases_eq shown.0 at) [
           | inl is ↦ absurd (none (u, t, n) (subst (λ p. fact_of (page_at c p) ≡ Some (u, t, n)) is shown.2))
@@ -126,7 +126,7 @@ module _ (pages bound : ℕ) (places : List (Option Place)) (old : Image) (holds
         beyond
 
     -- what a program leaves, whole or cut short
-    pub keeps_or_takes : Keeps pages bound (map_of places old) old c ⊎ Takes pages bound (map_of places old) v s main old c
+    pub keeps_or_takes : ImageKeepsMap pages bound (map_of places old) old c ⊎ GainsValue pages bound (map_of places old) v s main old c
     keeps_or_takes = elim (cut.each at) [
       | inl same ↦ inl (keeps_none (λ f is. shows_nothing (page_at c at) f (same ∙ blank) is))
       | inr in_range ↦ elim in_range.2 [

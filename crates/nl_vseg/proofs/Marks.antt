@@ -10,7 +10,7 @@ use Rattle.nl_blocks.specs.declared.states.Page.{Page}
 use Rattle.nl_blocks.specs.Table.{BlockRow, Table, block_at, page_at, new_page, no_row, with_page, with_mark, is_free, is_dead, dead_count}
 use Rattle.nl_blocks.proofs.TableLaws.{page_in, page_at-with_page_other}
 use Rattle.nl_vseg.specs.Places.{place_of, IsUnmapped}
-use Rattle.nl_vseg.specs.Copying.{SameStates, IsMarked, IsSettled, HasHole, is_in, mapped_in}
+use Rattle.nl_vseg.specs.Copying.{SameStates, MarksPlace, IsSettled, HasHole, is_in, mapped_in}
 use Rattle.nl_vseg.specs.declared.place.Place.{Place}
 use Rattle.std.proofs.lemmas.Option.{none-some, same_Some}
 use Rattle.nl_vseg.proofs.Passing.{some_passes, not_all_pass}
@@ -88,7 +88,7 @@ block_dead t block rows each = all_dead (block_at t block).pages (λ k below.
     let less : k < t.size = omega (arith, below, rows) in
     sym (ap (λ (p : Page). p.state) (page_of t block k less)) ∙ each k less) ∙ rows
 
-pub one_unmarked : (t : Table) → IsMarked None t t
+pub one_unmarked : (t : Table) → MarksPlace None t t
 one_unmarked t = record { states = states_same t; rows = λ block. refl; dead = λ block. omega arith; live = λ page below live. live; here = λ p is. absurd (none-some p is) }
 
 at_most_one : (b : Bool) → cond b 1 0 ≤ 1
@@ -96,7 +96,7 @@ at_most_one true = omega arith
 at_most_one false = omega arith
 
 pub one_marked : (t : Table) (place : Place) → t.first ≡ 0 → 0 < t.size → place.page < length t.blocks * t.size → ((block : ℕ) → block < length t.blocks → length (block_at t block).pages ≡ t.size)
-    → IsMarked (Some place) t (with_page t place.page Live)
+    → MarksPlace (Some place) t (with_page t place.page Live)
 one_marked t place first some below rows = record {
   states = marked_states t place.page Live first within;
   rows = marked_rows t place.page Live first within;

@@ -12,8 +12,8 @@ use Rattle.nl_field.specs.Virtual.{or_first_in, or_zeros, newest, virtual_bytes}
 use Rattle.nl_field.specs.declared.shape.Shape.{Shape}
 use Rattle.nl_field.specs.declared.spare.SpareRec.{SpareRec}
 use Rattle.nl_field.specs.declared.spare.SpareRec.TheVariants.{Virtual, Physical}
-use Rattle.nl_vseg.specs.Maps.{StandsFor, Dominated}
-use Rattle.nl_vseg.specs.Pages.{Fact, fact_of, fact_with, Shows}
+use Rattle.nl_vseg.specs.Maps.{RepresentsMap, Dominated}
+use Rattle.nl_vseg.specs.Pages.{Fact, fact_of, fact_with, PageShows}
 use Rattle.nl_vseg.proofs.Members.{In, filter_to, filter_from, filter_map_to, filter_map_from, enumerate_to, enumerate_from_at, any_from, any_to, find_in}
 
 -- what a readable virtual page shows
@@ -53,7 +53,7 @@ shown_readable shape p (written bytes) v t n is below = rec_readable shape p byt
 
 -- the readable virtual pages are those that show an address
 pub from_pages : (image : Image) (r : Readable) → In r (virtual_pages image)
-    → (address_on r < (shape_of_image image).vaddrs) × Shows (first_physical (shape_of_image image)) image (address_on r) (stamp_on r) r.main
+    → (address_on r < (shape_of_image image).vaddrs) × PageShows (first_physical (shape_of_image image)) image (address_on r) (stamp_on r) r.main
 unfolding virtual_pages readable_pages
 from_pages image r is =
     let shape = shape_of_image image in
@@ -65,7 +65,7 @@ from_pages image r is =
     let at : page_at image r.page ≡ m.0.1 = ap (λ k. get_or image.contents k erased) (omega (arith, shown.0, e.1)) ∙ e.2 erased in
     (shown.1, (r.page, ltb-true r.page (first_physical shape) parts.0, ap fact_of at ∙ shown.2))
 
-pub to_pages : (image : Image) (v t : ℕ) (n : List ℕ) → v < (shape_of_image image).vaddrs → (shows : Shows (first_physical (shape_of_image image)) image v t n)
+pub to_pages : (image : Image) (v t : ℕ) (n : List ℕ) → v < (shape_of_image image).vaddrs → (shows : PageShows (first_physical (shape_of_image image)) image v t n)
     → (r : Readable) × In r (virtual_pages image) × (address_on r ≡ v) × (stamp_on r ≡ t) × (r.main ≡ n) × (r.page ≡ shows.0)
 unfolding virtual_pages readable_pages
 to_pages image v t n below shows =
@@ -101,11 +101,11 @@ picked_some xs (Some y) r rest is = rest is
 picked_some [] None r rest is = absurd (none-some r is)
 picked_some (x ∷ xs) None r rest is = inl (same_Some x r is)
 
-module _ (image : Image) (map : ℕ → Option (ℕ × List ℕ)) (stands : StandsFor (first_physical (shape_of_image image)) (shape_of_image image).vaddrs image map) (v : ℕ) (below : v < (shape_of_image image).vaddrs) where
+module _ (image : Image) (map : ℕ → Option (ℕ × List ℕ)) (stands : RepresentsMap (first_physical (shape_of_image image)) (shape_of_image image).vaddrs image map) (v : ℕ) (below : v < (shape_of_image image).vaddrs) where
   dominated : (r : Readable) → In r (virtual_pages image) → address_on r ≡ v → Dominated (map v) (stamp_on r) r.main
   dominated r is at =
       let f = from_pages image r is in
-      stands.each v (stamp_on r) r.main below (subst (λ u. Shows (first_physical (shape_of_image image)) image u (stamp_on r) r.main) at f.1)
+      stands.each v (stamp_on r) r.main below (subst (λ u. PageShows (first_physical (shape_of_image image)) image u (stamp_on r) r.main) at f.1)
 
   is_greatest : (s : ℕ) (main : List ℕ) (r : Readable) → map v ≡ Some (s, main) → address_on r ≡ v → stamp_on r ≡ s → has_greatest_stamp (virtual_pages image) r ≡ true
   is_greatest s main r value at stamp = elim (cases_Bool (list_any (λ q. address_on q == address_on r && nat_lt (stamp_on r) (stamp_on q)) (virtual_pages image))) [
@@ -154,7 +154,7 @@ module _ (image : Image) (map : ℕ → Option (ℕ × List ℕ)) (stands : Stan
       (map v) refl
 
 -- the bytes of a virtual address are the value of the map, and zeros in an inode page that was never written
-pub virtual_value : (image : Image) (map : ℕ → Option (ℕ × List ℕ)) (v : ℕ) → StandsFor (first_physical (shape_of_image image)) (shape_of_image image).vaddrs image map → v < (shape_of_image image).vaddrs
+pub virtual_value : (image : Image) (map : ℕ → Option (ℕ × List ℕ)) (v : ℕ) → RepresentsMap (first_physical (shape_of_image image)) (shape_of_image image).vaddrs image map → v < (shape_of_image image).vaddrs
     → virtual_bytes image v ≡ or_zeros (shape_of_image image) v (option_map (λ (y : ℕ × List ℕ). y.1) (map v))
 unfolding virtual_bytes
 virtual_value image map v stands below = ap (or_zeros (shape_of_image image) v) (newest_value image map stands v below)

@@ -1,7 +1,7 @@
 -- Operations one after the other.
 use Rattle.std.proofs.Common.{◌≡◌, ℕ, ◌+◌, ◌*◌, ◌/◌, List, [], ◌∷◌, ◌++◌, refl, sym, subst}
 use Rattle.nl_field.specs.Page.{Image, erased, written}
-use Rattle.nl_nand.specs.Nand.{Leaves, ticked}
+use Rattle.nl_nand.specs.Nand.{OperationLeaves, ticked}
 use Rattle.nl_nand.specs.declared.answers.WriteAnswer.{WriteAnswer}
 use Rattle.nl_vseg.specs.Pages.{page_with}
 use Rattle.nl_vseg.specs.Operations.{Operation, Program, Erase, Snapshot, snapshot, wear_in, wears_after, DoesEach, Operates}
@@ -33,7 +33,7 @@ operates_still wears wears' clock clock' image image' w c i = operates_none (sam
 
 -- a program of a page
 pub operates_page : {told : Type 0} (pages page address stamp wear : ℕ) (main : List ℕ) (answer : WriteAnswer) (wears : List ℕ) (clock clock' : ℕ) (image image' : Image)
-    → wear_in wears (page / pages) ≡ wear → clock' ≡ ticked clock answer → (told → Leaves page (page + 1) (written (page_with main address stamp wear)) image answer image')
+    → wear_in wears (page / pages) ≡ wear → clock' ≡ ticked clock answer → (told → OperationLeaves page (page + 1) (written (page_with main address stamp wear)) image answer image')
     → Operates told pages (snapshot wears clock image) (snapshot wears clock' image')
 unfolding DoesEach
 operates_page pages page address stamp wear main answer wears clock clock' image image' is ticks leaves = record {
@@ -44,7 +44,7 @@ operates_page pages page address stamp wear main answer wears clock clock' image
       record {
         same_wears = refl;
         ticks = ticks;
-        leaves = λ t. subst (λ n. Leaves page (page + 1) (written (page_with main address stamp n)) image answer image') (sym is) (leaves t);
+        leaves = λ t. subst (λ n. OperationLeaves page (page + 1) (written (page_with main address stamp n)) image answer image') (sym is) (leaves t);
       },
       refl,
     ),
@@ -53,7 +53,7 @@ operates_page pages page address stamp wear main answer wears clock clock' image
 
 -- an erase of a block
 pub operates_block : {told : Type 0} (pages block : ℕ) (answer : WriteAnswer) (wears wears' : List ℕ) (clock clock' : ℕ) (image image' : Image)
-    → wears' ≡ wears_after answer block wears → clock' ≡ ticked clock answer → (told → Leaves (block * pages) (block * pages + pages) erased image answer image')
+    → wears' ≡ wears_after answer block wears → clock' ≡ ticked clock answer → (told → OperationLeaves (block * pages) (block * pages + pages) erased image answer image')
     → Operates told pages (snapshot wears clock image) (snapshot wears' clock' image')
 unfolding DoesEach
 operates_block pages block answer wears wears' clock clock' image image' is ticks leaves = record {

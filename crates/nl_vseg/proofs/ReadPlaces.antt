@@ -12,7 +12,7 @@ use Rattle.nl_vseg.specs.Pages.{Fact, fact_with, fact_of, main_of, stamp_in, sta
 use Rattle.nl_vseg.specs.Places.{place_of, value_at, map_of}
 use Rattle.nl_vseg.specs.Layout.{Layout, bound}
 use Rattle.nl_vseg.specs.Seen.{FitsLayout}
-use Rattle.nl_vseg.specs.Answers.{ReadsPage, ReadsValue}
+use Rattle.nl_vseg.specs.Answers.{ReadsPage, ReadsValueInto}
 use Rattle.nl_vseg.specs.declared.place.Place.{Place}
 
 times_le : (a b n : ℕ) → a ≤ b → a * n ≤ b * n
@@ -38,7 +38,7 @@ shown_stamp (written bytes) f is = fact_stamp (spare_rec_of bytes.spare) bytes.m
 pub reads_value : (places : List (Option Place)) (image : Image) (v : ℕ) (place : Place) (buf : PageBytes) (answer : VirtualRead) → place_of places v ≡ Some place
     → fact_of (page_at image place.page) ≡ Some (v, place.stamp, main_of (page_at image place.page)) → ReadsPage (page_at image place.page) place.stamp buf answer
     → (answer ≡ read.Done → stamp_found buf ≡ place.stamp) → ((w f : ℕ) → answer ≡ read.Lost w f → (w ≡ place.stamp) × (f ≡ place.stamp → ⊥))
-    → ReadsValue (map_of places image v) buf answer
+    → ReadsValueInto (map_of places image v) buf answer
 reads_value places image v place buf read.Done named holds reads done lost =
     ap (value_at image) named ∙ (λ i. Some (sym (done refl) i, ap main_of reads i))
 reads_value places image v place buf read.Unmapped named holds reads done lost = absurd reads

@@ -10,11 +10,11 @@ use Rattle.std.proofs.lemmas.Option.{none-some}
 use Rattle.nl_blocks.specs.Table.{block_at, free_count, is_free, new_row, new_table, row_at}
 use Rattle.nl_nand.specs.declared.geometry.Geometry.{Geometry}
 use Rattle.nl_nand.specs.Nand.{IsLegal}
-use Rattle.nl_vseg.specs.Layout.{IsLayout, HasSpare, block_is_free, bound, room, shown}
-use Rattle.nl_vseg.specs.Segment.{is_blank, wear_of}
+use Rattle.nl_vseg.specs.Layout.{IsLayout, LayoutHasUnmapped, block_is_free, bound, room, shown}
+use Rattle.nl_vseg.specs.Segment.{is_taken_as_erased, wear_of}
 use Rattle.nl_vseg.specs.declared.place.Place.{Place}
 use Rattle.nl_blocks.proofs.UsedLaws.{used-full}
-use Rattle.nl_vseg.specs.Used.{AreRising, is_open_state, used_of}
+use Rattle.nl_vseg.specs.Used.{OpenBlocksAreRisen, is_open_state, used_of}
 use Rattle.nl_vseg.proofs.Places.{all_none}
 use Rattle.nl_vseg.proofs.Using.{free_shut}
 use Rattle.nl_vseg.proofs.Views.{taken_blank, wear_at}
@@ -60,7 +60,7 @@ pub medium_fits : (geometry : Geometry) → IsLegal geometry → geometry.blocks
 medium_fits geometry (inl legal) = let p = (legal_parts geometry.blocks geometry.pages legal).all_pages in omega (arith, p)
 medium_fits geometry (inr none) = subst (λ (n : Geometry). n.blocks * n.pages < 2 ^ 32) (sym none) (omega arith)
 
-pub new_spare : (shape : Shape) → ShapeBounds shape → HasSpare (record { places = replicate shape.vaddrs None; table = new_table 0 shape.vblocks shape.pages; soiled = replicate shape.vblocks false; active = 0; used = shape.pages })
+pub new_spare : (shape : Shape) → ShapeBounds shape → LayoutHasUnmapped (record { places = replicate shape.vaddrs None; table = new_table 0 shape.vblocks shape.pages; soiled = replicate shape.vblocks false; active = 0; used = shape.pages })
 new_spare shape roomy =
     let blocks : length (replicate shape.vblocks (new_row shape.pages)) ≡ shape.vblocks = length-replicate shape.vblocks (new_row shape.pages) in
     let more = roomy.some_blocks in
@@ -102,7 +102,7 @@ new_shut shape block = free_shut (block_at (new_table 0 shape.vblocks shape.page
 pub new_used : (shape : Shape) → used_of (new_table 0 shape.vblocks shape.pages) 0 ≡ shape.pages
 new_used shape = used-full is_open_state (new_table 0 shape.vblocks shape.pages) 0 (new_shut shape 0)
 
-pub new_rising : (shape : Shape) → AreRising (new_table 0 shape.vblocks shape.pages)
+pub new_rising : (shape : Shape) → OpenBlocksAreRisen (new_table 0 shape.vblocks shape.pages)
 new_rising shape = record { each = λ block has is. absurd (false≢true (sym (new_shut shape block) ∙ is)) }
 
 new_clean : (count block : ℕ) → get_or (replicate count false) block false ≡ false
@@ -113,7 +113,7 @@ new_clean (suc count) (suc block) = new_clean count block
 -- all its pages are taken as erased
 pub new_blank : (shape : Shape) → ShapeBounds shape → (p : ℕ)
     → p < bound (record { places = replicate shape.vaddrs None; table = new_table 0 shape.vblocks shape.pages; soiled = replicate shape.vblocks false; active = 0; used = shape.pages })
-    → is_blank (shown (record { places = replicate shape.vaddrs None; table = new_table 0 shape.vblocks shape.pages; soiled = replicate shape.vblocks false; active = 0; used = shape.pages })) p ≡ true
+    → is_taken_as_erased (shown (record { places = replicate shape.vaddrs None; table = new_table 0 shape.vblocks shape.pages; soiled = replicate shape.vblocks false; active = 0; used = shape.pages })) p ≡ true
 new_blank shape room p below =
     taken_blank (record { places = replicate shape.vaddrs None; table = new_table 0 shape.vblocks shape.pages; soiled = replicate shape.vblocks false; active = 0; used = shape.pages }) p
     (below, inr (new_free shape (p / shape.pages), new_clean shape.vblocks (p / shape.pages)))

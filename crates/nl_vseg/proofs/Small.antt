@@ -4,8 +4,8 @@ use Rattle.nl_field.specs.declared.answers.VirtualWrite.TheVariants as write
 use Rattle.nl_nand.specs.declared.answers.WriteAnswer.TheVariants as page
 use Rattle.nl_nand.specs.declared.geometry.Geometry.{Geometry}
 use Rattle.nl_blocks.specs.Table.{Table, free_count}
-use Rattle.nl_vseg.specs.Copying.{HasHole, Restated, SameNumbers}
-use Rattle.nl_vseg.specs.Layout.{Layout, SameShape, block_is_free}
+use Rattle.nl_vseg.specs.Copying.{HasHole, SetsFree, SameNumbers}
+use Rattle.nl_vseg.specs.Layout.{Layout, SameLayoutShape, block_is_free}
 use Rattle.nl_vseg.specs.Seen.{FitsLayout}
 use Rattle.nl_vseg.specs.declared.place.Place.{Place}
 
@@ -47,7 +47,7 @@ fits_then geometry geometry' old new same n fits = subst (λ (x : Geometry). Fit
 })
 
 -- as many blocks of as many pages
-pub shape_of : (old new : Layout) → length new.places ≡ length old.places → SameNumbers old.table new.table → SameShape old new
+pub shape_of : (old new : Layout) → length new.places ≡ length old.places → SameNumbers old.table new.table → SameLayoutShape old new
 shape_of old new count n = record { addresses = count; blocks = n.same_count; pages = n.same_size }
 
 pub numbers_then : {a b c : Table} → SameNumbers a b → SameNumbers b c → SameNumbers a c
@@ -58,7 +58,7 @@ numbers_then first second = record {
 }
 
 -- a block was given back
-pub given_free : {block : ℕ} {a b : Table} → block_is_free a block ≡ false → Restated block true a b → 1 ≤ free_count b
+pub given_free : {block : ℕ} {a b : Table} → block_is_free a block ≡ false → SetsFree block true a b → 1 ≤ free_count b
 given_free {block} {a} {b} here r =
     let t : free_count b + cond false 1 0 ≡ free_count a + cond true 1 0 = ap (λ (x : Bool). free_count b + cond x 1 0) (sym here) ∙ r.total in
     omega (arith, t)
@@ -82,8 +82,8 @@ le_least some = omega (arith, some)
 pub one_left : {n r : ℕ} → r ≡ n → r < 2 → 1 ≤ n → n ≡ 1
 one_left is few some = omega (arith, is, few, some)
 
-pub shape_then : {a b c : Layout} → SameShape a b → SameShape b c → SameShape a c
+pub shape_then : {a b c : Layout} → SameLayoutShape a b → SameLayoutShape b c → SameLayoutShape a c
 shape_then first second = record { addresses = second.addresses ∙ first.addresses; blocks = second.blocks ∙ first.blocks; pages = second.pages ∙ first.pages }
 
-pub shape_after : {a b c : Layout} → length b.places ≡ length a.places → SameNumbers a.table b.table → SameShape b c → SameShape a c
+pub shape_after : {a b c : Layout} → length b.places ≡ length a.places → SameNumbers a.table b.table → SameLayoutShape b c → SameLayoutShape a c
 shape_after count n second = record { addresses = second.addresses ∙ count; blocks = second.blocks ∙ n.same_count; pages = second.pages ∙ n.same_size }

@@ -7,8 +7,8 @@ use Rattle.nl_field.specs.Numbers.{shape_for}
 use Rattle.nl_field.specs.Page.{Image}
 use Rattle.nl_field.specs.Medium.{Readable, virtual_pages, shape_of_image, first_physical, address_on, stamp_on}
 use Rattle.nl_field.specs.Space.{has_greatest_stamp, spare_block, virtual_spare}
-use Rattle.nl_vseg.specs.Effects.{Keeps, Takes}
-use Rattle.nl_vseg.specs.Maps.{StandsFor, Dominated, with_at}
+use Rattle.nl_vseg.specs.Effects.{ImageKeepsMap, GainsValue}
+use Rattle.nl_vseg.specs.Maps.{RepresentsMap, Dominated, with_at}
 use Rattle.nl_vseg.specs.Pages.{ShowsBeside}
 use Rattle.nl_vseg.proofs.Members.{In, any_from}
 use Rattle.nl_vseg.proofs.Newest.{from_pages, to_pages}
@@ -42,7 +42,7 @@ or_right : (a b : Bool) → b ≡ true → (a || b) ≡ true
 or_right true b is = refl
 or_right false b is = is
 
-module _ (image : Image) (map : ℕ → Option (ℕ × List ℕ)) (stands : StandsFor (first_physical (shape_of_image image)) (shape_of_image image).vaddrs image map) (spare : ℕ) (some : 0 < image.pages)
+module _ (image : Image) (map : ℕ → Option (ℕ × List ℕ)) (stands : RepresentsMap (first_physical (shape_of_image image)) (shape_of_image image).vaddrs image map) (spare : ℕ) (some : 0 < image.pages)
     (there : (v s : ℕ) (main : List ℕ) → map v ≡ Some (s, main) → ShowsBeside image.pages spare (first_physical (shape_of_image image)) image v s main) where
   copied_at : (r : Readable) → In r (virtual_pages image) → has_greatest_stamp (virtual_pages image) r ≡ true → (x : Option (ℕ × List ℕ)) → map (address_on r) ≡ x → Dominated x (stamp_on r) r.main
       → (q : Readable) × In q (virtual_pages image) × (address_on q ≡ address_on r) × (stamp_on q ≡ stamp_on r) × (q.page / image.pages ≡ spare → ⊥)
@@ -85,12 +85,12 @@ module _ (image : Image) (map : ℕ → Option (ℕ × List ℕ)) (stands : Stan
       ] in
       true≢false (sym (all_from _ (virtual_pages image) passes) ∙ find_none _ spare (range_with_len 0 shape.vblocks) none (in_range 0 shape.vblocks spare (omega arith) (omega (arith, least))))
 
-pub keeps_spare : (map : ℕ → Option (ℕ × List ℕ)) (old c : Image) → 0 < c.pages → StandsFor (first_physical (shape_of_image c)) (shape_of_image c).vaddrs c map
-    → Keeps c.pages (first_physical (shape_of_image c)) map old c → virtual_spare c ≡ None → ⊥
+pub keeps_spare : (map : ℕ → Option (ℕ × List ℕ)) (old c : Image) → 0 < c.pages → RepresentsMap (first_physical (shape_of_image c)) (shape_of_image c).vaddrs c map
+    → ImageKeepsMap c.pages (first_physical (shape_of_image c)) map old c → virtual_spare c ≡ None → ⊥
 keeps_spare map old c some stands k = spare_there c map stands k.spare some k.there k.within
 
-pub takes_spare : (v s : ℕ) (main : List ℕ) (map : ℕ → Option (ℕ × List ℕ)) (old c : Image) → 0 < c.pages → StandsFor (first_physical (shape_of_image c)) (shape_of_image c).vaddrs c (with_at map v (s, main))
-    → Takes c.pages (first_physical (shape_of_image c)) map v s main old c → virtual_spare c ≡ None → ⊥
+pub takes_spare : (v s : ℕ) (main : List ℕ) (map : ℕ → Option (ℕ × List ℕ)) (old c : Image) → 0 < c.pages → RepresentsMap (first_physical (shape_of_image c)) (shape_of_image c).vaddrs c (with_at map v (s, main))
+    → GainsValue c.pages (first_physical (shape_of_image c)) map v s main old c → virtual_spare c ≡ None → ⊥
 takes_spare v s main map old c some stands k = spare_there c (with_at map v (s, main)) stands k.spare some there k.within
   where
     there : (u t : ℕ) (n : List ℕ) → with_at map v (s, main) u ≡ Some (t, n) → ShowsBeside c.pages k.spare (first_physical (shape_of_image c)) c u t n

@@ -5,13 +5,13 @@ use Rattle.nl_field.specs.Page.{Image}
 use Rattle.nl_blocks.specs.declared.states.BlockState.{BlockState}
 use Rattle.nl_blocks.specs.declared.states.BlockState.TheVariants.{Free, Active, Target, Sealed, Victim, Retired}
 use Rattle.nl_blocks.specs.declared.states.PageState.{PageState}
-use Rattle.nl_blocks.specs.Table.{BlockRow, Table, HasBlock, HasPage, IsNextPage, IsTable, block_at, free_count, is_free_state, is_sealed_state, page_at, taken, with_block, with_page}
+use Rattle.nl_blocks.specs.Table.{BlockRow, Table, HasBlock, HasPage, IsNextPage, IsBlockTable, block_at, free_count, is_free_state, is_sealed_state, page_at, taken, with_block, with_page}
 use Rattle.nl_blocks.specs.Used.{first_unmarked}
 use Rattle.nl_blocks.proofs.UsedLaws.{first-taken, full-used, next-marks, next-used, rising-closed, rising-given, rising-marks, rising-with, used-each, used-full, used-here, used-kind, used-other}
-use Rattle.nl_vseg.specs.Copying.{IsSettled, Restated, SameUse}
-use Rattle.nl_vseg.specs.Layout.{Layout, ArePlaces, HasSpare, IsLayout, IsLayoutOf, TakenAsErased, block_is_free, bound, closed, is_soiled, room, wears_of}
+use Rattle.nl_vseg.specs.Copying.{IsSettled, SetsFree, SameFreeBlocks}
+use Rattle.nl_vseg.specs.Layout.{Layout, ArePlaces, LayoutHasUnmapped, IsLayout, IsLayoutOf, LayoutTakesAsErased, block_is_free, bound, closed, is_soiled, room, wears_of}
 use Rattle.nl_vseg.specs.Places.{IsUnmapped}
-use Rattle.nl_vseg.specs.Used.{AreRising, IsClosed, IsOpened, KeepsUsed, UsesNext, is_open_state, used_of}
+use Rattle.nl_vseg.specs.Used.{OpenBlocksAreRisen, IsClosed, IsUnusedBlock, KeepsUsed, UsesNext, is_open_state, used_of}
 use Rattle.nl_vseg.specs.declared.place.Place.{Place}
 use Rattle.nl_vseg.proofs.Blocks.{has_block}
 use Rattle.nl_vseg.proofs.Copies.{closed_segment}
@@ -55,7 +55,7 @@ module _ (t : Table) (block : ℕ) (row : BlockRow) (first : t.first ≡ 0) (wit
   }
 
 -- a block given out
-pub opened_with : (t : Table) (block : ℕ) (state : BlockState) → t.first ≡ 0 → block < length t.blocks → is_open_state state ≡ true → IsOpened block t (with_block t block (taken (block_at t block) state))
+pub opened_with : (t : Table) (block : ℕ) (state : BlockState) → t.first ≡ 0 → block < length t.blocks → is_open_state state ≡ true → IsUnusedBlock block t (with_block t block (taken (block_at t block) state))
 opened_with t block state first within is = record {
   none = used-here is_open_state t block (taken (block_at t block) state) (has_block t block first within)
       ∙ (cond-true (is_open_state state) (first_unmarked (taken (block_at t block) state).pages) t.size is ∙ first-taken (block_at t block).pages);
@@ -92,7 +92,7 @@ closed_keeps {block} {a} {b} full size step = record {
 }
 
 -- the next page
-module _ (t : Table) (is : IsTable t) (block : ℕ) (first : t.first ≡ 0) (within : block < length t.blocks) where
+module _ (t : Table) (is : IsBlockTable t) (block : ℕ) (first : t.first ≡ 0) (within : block < length t.blocks) where
   pub next_room : is_open_state (block_at t block).state ≡ true → (page : ℕ) → IsNextPage t block page → used_of t block < t.size
   next_room open_is page next =
       let at = next-used is_open_state t is block (has_block t block first within) open_is page next in
@@ -109,7 +109,7 @@ module _ (t : Table) (is : IsTable t) (block : ℕ) (first : t.first ≡ 0) (wit
     pub next_left : ((page : ℕ) → page / t.size ≡ block → (page_at t page).marked ≡ true) → ⊥
     next_left all = let full = none_full (used-kind is_open_state t block room) all in omega (arith, full, room)
 
-    pub uses_next : AreRising t → (page : ℕ) (state : PageState) → IsNextPage t block page → UsesNext block t (with_page t page state)
+    pub uses_next : OpenBlocksAreRisen t → (page : ℕ) (state : PageState) → IsNextPage t block page → UsesNext block t (with_page t page state)
     uses_next rising page state next =
         let here = next.in_block in
         let has : HasPage t page = subst (HasBlock t) (sym here) (has_block t block first within) in
@@ -131,7 +131,7 @@ module _ (places : List (Option Place)) (t : Table) (first : t.first ≡ 0) (set
   pub settled_full : (block : ℕ) → block < length t.blocks → used_of t block ≡ t.size
   settled_full block within = used-full is_open_state t block (settled_shut block within)
 
-  pub settled_rising : AreRising t
+  pub settled_rising : OpenBlocksAreRisen t
   settled_rising = record { each = λ block has is. absurd (false≢true (sym (settled_shut block (let below = has.below in omega (arith, below, first))) ∙ is)) }
 
 -- ---- the segment
@@ -154,14 +154,14 @@ module _ (seg : Layout) (block : ℕ) where
   closed_idle = closed_cases (λ n. n < seg.table.size → block ≡ seg.active → ⊥) (λ here lt same. omega (arith, lt)) (λ other lt same. other (sym same))
 
   -- less is taken as erased
-  pub closed_fewer : (p : ℕ) → TakenAsErased (closed_in seg block) p → TakenAsErased seg p
-  closed_fewer p = closed_cases (λ n. TakenAsErased (record seg { used = n }) p → TakenAsErased seg p)
+  pub closed_fewer : (p : ℕ) → LayoutTakesAsErased (closed_in seg block) p → LayoutTakesAsErased seg p
+  closed_fewer p = closed_cases (λ n. LayoutTakesAsErased (record seg { used = n }) p → LayoutTakesAsErased seg p)
       (λ here t. (t.0, ⊎_elim (λ next. absurd (omega (arith, next.0, next.1))) (λ free. inr free) t.1))
       (λ other t. t)
 
   -- as much of the other blocks is taken as erased as before
-  pub closed_beside : (p : ℕ) → TakenAsErased seg p → (p / seg.table.size ≡ block → ⊥) → TakenAsErased (closed_in seg block) p
-  closed_beside p t ne = closed_cases (λ n. TakenAsErased (record seg { used = n }) p)
+  pub closed_beside : (p : ℕ) → LayoutTakesAsErased seg p → (p / seg.table.size ≡ block → ⊥) → LayoutTakesAsErased (closed_in seg block) p
+  closed_beside p t ne = closed_cases (λ n. LayoutTakesAsErased (record seg { used = n }) p)
       (λ here. (t.0, ⊎_elim (λ next. absurd (ne (block_of p seg.table.size seg.active (omega (arith, next.0)) next.1 ∙ here))) (λ free. inr free) t.1))
       (λ other. t)
 
@@ -172,7 +172,7 @@ module _ (seg : Layout) (block : ℕ) where
       (λ other. step.others seg.active within other ∙ sym used_is)
 
 -- a Free block is the active one now, and none of its pages is used
-module _ (old : Layout) (table : Table) (block : ℕ) (is : IsLayout old) (within : block < length old.table.blocks) (free : block_is_free old.table block ≡ true) (restated : Restated block false old.table table) where
+module _ (old : Layout) (table : Table) (block : ℕ) (is : IsLayout old) (within : block < length old.table.blocks) (free : block_is_free old.table block ≡ true) (restated : SetsFree block false old.table table) where
   bound_same : length table.blocks * table.size ≡ length old.table.blocks * old.table.size
   bound_same i = restated.numbers.same_count i * restated.numbers.same_size i
 
@@ -240,7 +240,7 @@ module _ (old : Layout) (table : Table) (block : ℕ) (is : IsLayout old) (withi
   }
 
 -- a segment with another table, where the same blocks are Free and as many pages of the active one are used
-module _ (seg : Layout) (t : Table) (use_is : SameUse seg.table t) (used_is : used_of t seg.active ≡ seg.used) where
+module _ (seg : Layout) (t : Table) (use_is : SameFreeBlocks seg.table t) (used_is : used_of t seg.active ≡ seg.used) where
   pub numbered : IsLayout seg → IsLayout (record seg { table = t; used = used_of t seg.active })
   numbered is = subst (λ n. IsLayout (record seg { table = t; used = n })) (sym used_is) (same_use_segment seg t use_is is)
 
@@ -265,7 +265,7 @@ pub same_wear : (old new : Table) (block : ℕ) → old.first ≡ 0 → new.firs
 same_wear old new block first first_new same = sym (wear_at new block first_new) ∙ (ap (λ (l : List ℕ). get_or l block 0) same ∙ wear_at old block first)
 
 -- a segment with another table, where the same blocks are Free and others may be soiled
-pub marked_segment : (seg : Layout) (t : Table) (soiled : List Bool) → SameUse seg.table t → length soiled ≡ length seg.soiled → IsLayout seg → IsLayout (record seg { table = t; soiled = soiled })
+pub marked_segment : (seg : Layout) (t : Table) (soiled : List Bool) → SameFreeBlocks seg.table t → length soiled ≡ length seg.soiled → IsLayout seg → IsLayout (record seg { table = t; soiled = soiled })
 marked_segment seg t soiled use_is count is =
     let same = same_use_segment seg t use_is is in
     record {
@@ -289,7 +289,7 @@ closed_image seg image is = record {
 }
 
 -- what is taken as erased beside the active block, where the same blocks are Free
-pub numbered_beside : (seg : Layout) (t : Table) (used p : ℕ) → SameUse seg.table t → TakenAsErased (record seg { table = t; used = used }) p → (p / seg.table.size ≡ seg.active → ⊥) → TakenAsErased seg p
+pub numbered_beside : (seg : Layout) (t : Table) (used p : ℕ) → SameFreeBlocks seg.table t → LayoutTakesAsErased (record seg { table = t; used = used }) p → (p / seg.table.size ≡ seg.active → ⊥) → LayoutTakesAsErased seg p
 numbered_beside seg t used p use_is taken_now ne =
     let n = taken_cases (record seg { table = t; used = used }) seg.table.size (length seg.table.blocks) use_is.numbers.same_size use_is.numbers.same_count p taken_now in (
       n.0,
@@ -300,7 +300,7 @@ numbered_beside seg t used p use_is taken_now ne =
     )
 
 -- where some block holds no page of the map, it does whatever is used
-pub spare_used : (seg : Layout) (t : Table) (used : ℕ) → SameUse seg.table t → HasSpare seg → HasSpare (record seg { table = t; used = used })
+pub spare_used : (seg : Layout) (t : Table) (used : ℕ) → SameFreeBlocks seg.table t → LayoutHasUnmapped seg → LayoutHasUnmapped (record seg { table = t; used = used })
 spare_used seg t used use_is is = record {
   block = is.block;
   within = subst (λ n. is.block < n) (sym use_is.numbers.same_count) is.within;

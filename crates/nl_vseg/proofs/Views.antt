@@ -8,8 +8,8 @@ use Rattle.std.proofs.lemmas.Bool.{false≢true, and_parts, and_from, or_cases, 
 use Rattle.nl_field.specs.Page.{Image}
 use Rattle.nl_blocks.specs.Table.{Table, block_at, no_row, row_at, wear_of}
 use Rattle.nl_nand.specs.declared.geometry.Geometry.{Geometry}
-use Rattle.nl_vseg.specs.Layout.{Layout, bound, is_soiled, block_is_free, HasSpare, SameShape, TakenAsErased, is_taken, blanks, wears_of, shown, IsLayoutOf}
-use Rattle.nl_vseg.specs.Segment.{KeepsSpare, SameSize, Fits, IsSegmentOf}
+use Rattle.nl_vseg.specs.Layout.{Layout, bound, is_soiled, block_is_free, LayoutHasUnmapped, SameLayoutShape, LayoutTakesAsErased, takes_as_erased, blanks, wears_of, shown, IsLayoutOf}
+use Rattle.nl_vseg.specs.Segment.{SegmentHasUnmapped, SameSize, FitsSegment, IsSegmentOf}
 use Rattle.nl_vseg.specs.Seen.{FitsLayout}
 use Rattle.nl_vseg.proofs.Places.{block_below}
 
@@ -19,8 +19,8 @@ next seg p = nat_le (seg.active * seg.table.size + seg.used) p && nat_lt p (seg.
 abbrev clean : Layout → ℕ → Bool
 clean seg p = block_is_free seg.table (p / seg.table.size) && not (is_soiled seg (p / seg.table.size))
 
-pub taken_of : (seg : Layout) (p : ℕ) → is_taken seg p ≡ true → TakenAsErased seg p
-unfolding is_taken
+pub taken_of : (seg : Layout) (p : ℕ) → takes_as_erased seg p ≡ true → LayoutTakesAsErased seg p
+unfolding takes_as_erased
 taken_of seg p is =
     let parts = and_parts (nat_lt p (bound seg)) (next seg p || clean seg p) is in (
       ltb-true p (bound seg) parts.0,
@@ -41,8 +41,8 @@ or_right : (a b : Bool) → b ≡ true → (a || b) ≡ true
 or_right true b is = refl
 or_right false b is = is
 
-pub is_taken_of : (seg : Layout) (p : ℕ) → TakenAsErased seg p → is_taken seg p ≡ true
-unfolding is_taken
+pub is_taken_of : (seg : Layout) (p : ℕ) → LayoutTakesAsErased seg p → takes_as_erased seg p ≡ true
+unfolding takes_as_erased
 is_taken_of seg p taken = and_from (nat_lt p (bound seg)) (next seg p || clean seg p) (lt-ltb p (bound seg) taken.0)
     (⊎_elim
     (λ n. or_left (next seg p) (clean seg p) (and_from (nat_le (seg.active * seg.table.size + seg.used) p) (nat_lt p (seg.active * seg.table.size + seg.table.size))
@@ -51,17 +51,17 @@ is_taken_of seg p taken = and_from (nat_lt p (bound seg)) (next seg p || clean s
     taken.1)
 
 -- what users see as taken as erased is so
-pub taken_blank : (seg : Layout) (p : ℕ) → TakenAsErased seg p → get_or (blanks seg) p false ≡ true
+pub taken_blank : (seg : Layout) (p : ℕ) → LayoutTakesAsErased seg p → get_or (blanks seg) p false ≡ true
 unfolding blanks
-taken_blank seg p taken = get_or-map-range_with_len (is_taken seg) 0 (bound seg) p p false taken.0 (omega arith) ∙ is_taken_of seg p taken
+taken_blank seg p taken = get_or-map-range_with_len (takes_as_erased seg) 0 (bound seg) p p false taken.0 (omega arith) ∙ is_taken_of seg p taken
 
-pub blank_taken : (seg : Layout) (p : ℕ) → get_or (blanks seg) p false ≡ true → TakenAsErased seg p
+pub blank_taken : (seg : Layout) (p : ℕ) → get_or (blanks seg) p false ≡ true → LayoutTakesAsErased seg p
 unfolding blanks
 blank_taken seg p is = elim (cases_lt p (bound seg)) [
-  | inl lt ↦ taken_of seg p (sym (get_or-map-range_with_len (is_taken seg) 0 (bound seg) p p false lt (omega arith)) ∙ is)
+  | inl lt ↦ taken_of seg p (sym (get_or-map-range_with_len (takes_as_erased seg) 0 (bound seg) p p false lt (omega arith)) ∙ is)
   | inr past ↦
-      let end : length (map (is_taken seg) (range_with_len 0 (bound seg))) ≤ p = omega (arith, length-map-range_with_len (is_taken seg) 0 (bound seg), past) in
-      absurd (false≢true (sym (get_or_past (map (is_taken seg) (range_with_len 0 (bound seg))) p false end) ∙ is))
+      let end : length (map (takes_as_erased seg) (range_with_len 0 (bound seg))) ≤ p = omega (arith, length-map-range_with_len (takes_as_erased seg) 0 (bound seg), past) in
+      absurd (false≢true (sym (get_or_past (map (takes_as_erased seg) (range_with_len 0 (bound seg))) p false end) ∙ is))
 ]
 
 -- the wear that users see
@@ -82,13 +82,13 @@ block_within block count pages some within = elim (cases_lt block count) [
   | inr ge ↦ let le : count * pages ≤ block * pages = mul-le-mul_right pages ge in absurd (omega (arith, le, within, some))
 ]
 
-pub spare_of : {seg : Layout} → 0 < seg.table.size → KeepsSpare (shown seg) → HasSpare seg
+pub spare_of : {seg : Layout} → 0 < seg.table.size → SegmentHasUnmapped (shown seg) → LayoutHasUnmapped seg
 spare_of {seg} some is = record { block = is.block; within = block_within is.block (length seg.table.blocks) seg.table.size some is.within; unmapped = is.unmapped }
 
-pub spare_from : {seg : Layout} → HasSpare seg → KeepsSpare (shown seg)
+pub spare_from : {seg : Layout} → LayoutHasUnmapped seg → SegmentHasUnmapped (shown seg)
 spare_from {seg} is = record { block = is.block; within = block_below is.block (length seg.table.blocks) seg.table.size is.within; unmapped = is.unmapped }
 
-pub fits_of : {geometry : Geometry} {seg : Layout} → 0 < seg.table.size → Fits geometry (shown seg) → FitsLayout geometry seg
+pub fits_of : {geometry : Geometry} {seg : Layout} → 0 < seg.table.size → FitsSegment geometry (shown seg) → FitsLayout geometry seg
 fits_of {geometry} {seg} some is = record {
   pages = is.same_pages;
   blocks = elim (cases_lt geometry.blocks (length seg.table.blocks)) [
@@ -100,5 +100,5 @@ fits_of {geometry} {seg} some is = record {
   ];
 }
 
-pub size_from : {old new : Layout} → SameShape old new → SameSize (shown old) (shown new)
+pub size_from : {old new : Layout} → SameLayoutShape old new → SameSize (shown old) (shown new)
 size_from {old} {new} same = record { addresses = same.addresses; same_pages = same.pages; same_bound = λ i. same.blocks i * same.pages i }

@@ -5,7 +5,7 @@ use Rattle.nl_field.specs.Page.{Page, erased, written, Image, page_at}
 use Rattle.nl_field.specs.Spelling.{is_stamp}
 use Rattle.nl_nand.specs.declared.answers.WriteAnswer.{WriteAnswer}
 use Rattle.nl_nand.specs.declared.answers.WriteAnswer.TheVariants as write
-use Rattle.nl_nand.specs.Nand.{Cut, Filled, Leaves, CanProgram, CrashLeaves, ticked}
+use Rattle.nl_nand.specs.Nand.{Cut, Filled, OperationLeaves, CanProgram, CrashLeaves, ticked}
 use Rattle.nl_nand.specs.ImageLaws.{filled_cut}
 use Rattle.nl_nand.proofs.Crashes.{operation_turns, leaves_done}
 use Rattle.nl_blocks.specs.Table.{free_count}
@@ -13,8 +13,8 @@ use Rattle.nl_field.specs.CrashStates.{LeavesOnly, Turns}
 use Rattle.nl_vseg.specs.Maps.{with_at}
 use Rattle.nl_vseg.specs.Pages.{fact_of, main_of, IsBeside, page_with}
 use Rattle.nl_vseg.specs.Places.{place_of, stamp_for, stamp_in_place, value_at, map_of}
-use Rattle.nl_vseg.specs.Layout.{Layout, bound, block_is_free, HasSpare, TakenAsErased, IsLayoutOf, IsLayout}
-use Rattle.nl_vseg.specs.Effects.{Keeps, Takes, Programmed}
+use Rattle.nl_vseg.specs.Layout.{Layout, bound, block_is_free, LayoutHasUnmapped, LayoutTakesAsErased, IsLayoutOf, IsLayout}
+use Rattle.nl_vseg.specs.Effects.{ImageKeepsMap, GainsValue, BlockIsProgrammed}
 use Rattle.nl_vseg.specs.declared.place.Place.{Place}
 use Rattle.nl_vseg.proofs.Places.{block_of, beside_of, block_below, place_here, place_other, set_place, used_more, next_placed}
 use Rattle.nl_vseg.proofs.Images.{apart_from_erased, keeps_or_takes, takes_new}
@@ -57,7 +57,7 @@ module _ (seg : Layout) (is : IsLayout seg) (room : seg.used < seg.table.size) (
   }
 
   -- what is taken as erased then, was before, and is not the page
-  taken_more : (places : List (Option Place)) (p : ℕ) → TakenAsErased (record seg { places = places; used = seg.used + 1 }) p → TakenAsErased seg p × (p ≡ page → ⊥)
+  taken_more : (places : List (Option Place)) (p : ℕ) → LayoutTakesAsErased (record seg { places = places; used = seg.used + 1 }) p → LayoutTakesAsErased seg p × (p ≡ page → ⊥)
   taken_more places p taken = ⊎_elim
       (λ next. ((taken.0, inl (omega (arith, next.0), next.1)), λ same. omega (arith, same, at, next.0)))
       (λ free. ((taken.0, inr free), λ same. true≢false (sym free.0 ∙ (ap (λ n. block_is_free seg.table (n / seg.table.size)) same ∙ (ap (block_is_free seg.table) page_block ∙ in_use)))))
@@ -67,7 +67,7 @@ module _ (seg : Layout) (is : IsLayout seg) (room : seg.used < seg.table.size) (
     pub page_beside : IsBeside seg.table.size block page
     page_beside = beside_of page seg.table.size block (λ here. true≢false (sym free ∙ (ap (block_is_free seg.table) (sym here ∙ page_block) ∙ in_use)))
 
-    pub spare_kept : HasSpare (record seg { used = seg.used + 1 })
+    pub spare_kept : LayoutHasUnmapped (record seg { used = seg.used + 1 })
     spare_kept = record { block = block; within = block_in; unmapped = free_unmapped seg is block free }
 
   module _ (v s : ℕ) (within : v < length seg.places) (spelled : IsTrue (is_stamp s)) where
@@ -88,7 +88,7 @@ module _ (seg : Layout) (is : IsLayout seg) (room : seg.used < seg.table.size) (
           (set_place seg.places v (record { page = page; stamp = s }) within u place named);
     }
 
-    pub spare_put : (block : ℕ) → block < length seg.table.blocks → block_is_free seg.table block ≡ true → HasSpare (record seg { places = set seg.places v (Some (record { page = page; stamp = s })); used = seg.used + 1 })
+    pub spare_put : (block : ℕ) → block < length seg.table.blocks → block_is_free seg.table block ≡ true → LayoutHasUnmapped (record seg { places = set seg.places v (Some (record { page = page; stamp = s })); used = seg.used + 1 })
     spare_put block block_in free = record {
       block = block;
       within = block_in;
@@ -155,7 +155,7 @@ module _ (seg : Layout) (is : IsLayout seg) (room : seg.used < seg.table.size) (
               ∙ sym (cond-false (u == v) (Some (s, main)) (map_of seg.places image u) (ne_eqb u v ne)))
         ]
 
-        pub programmed : Programmed seg.table.size (bound seg) seg.active v s w main image c
+        pub programmed : BlockIsProgrammed seg.table.size (bound seg) seg.active v s w main image c
         programmed = record { page = page; below = page_below; in_block = page_block; has = new_is; others = λ p ne. inl (other p ne) }
 
 -- what a program of the next page leaves, whole or cut short
@@ -165,14 +165,14 @@ module _ (seg : Layout) (is : IsLayout seg) (room : seg.used < seg.table.size) (
   block = some_free seg.table is.first free
 
   pub put_either : (c : Image) → Cut page (page + 1) (written (page_with main v s w)) image c
-      → Keeps seg.table.size (bound seg) (map_of seg.places image) image c ⊎ Takes seg.table.size (bound seg) (map_of seg.places image) v s given image c
-  put_either c cut = subst (λ m. Keeps seg.table.size (bound seg) (map_of seg.places image) image c ⊎ Takes seg.table.size (bound seg) (map_of seg.places image) v s m image c) same
+      → ImageKeepsMap seg.table.size (bound seg) (map_of seg.places image) image c ⊎ GainsValue seg.table.size (bound seg) (map_of seg.places image) v s given image c
+  put_either c cut = subst (λ m. ImageKeepsMap seg.table.size (bound seg) (map_of seg.places image) image c ⊎ GainsValue seg.table.size (bound seg) (map_of seg.places image) v s m image c) same
       (keeps_or_takes seg.table.size (bound seg) seg.places image seg_is.holds (below_of seg is) page block.0 v s main (written (page_with main v s w))
       (page_blank seg is room page at image seg_is) (page_below seg is room page at) (page_beside seg is room page at block.0 block.1 block.2)
       (block_below block.0 (length seg.table.blocks) seg.table.size block.1) (free_unmapped seg is block.0 block.2) shows c cut)
 
-  pub put_takes : (c : Image) → Filled page (page + 1) (written (page_with main v s w)) image c → Takes seg.table.size (bound seg) (map_of seg.places image) v s given image c
-  put_takes c filled = subst (λ m. Takes seg.table.size (bound seg) (map_of seg.places image) v s m image c) same
+  pub put_takes : (c : Image) → Filled page (page + 1) (written (page_with main v s w)) image c → GainsValue seg.table.size (bound seg) (map_of seg.places image) v s given image c
+  put_takes c filled = subst (λ m. GainsValue seg.table.size (bound seg) (map_of seg.places image) v s m image c) same
       (takes_new seg.table.size (bound seg) seg.places image seg_is.holds (below_of seg is) page block.0 v s main (written (page_with main v s w))
       (page_blank seg is room page at image seg_is) (page_below seg is room page at) (page_beside seg is room page at block.0 block.1 block.2)
       (block_below block.0 (length seg.table.blocks) seg.table.size block.1) (free_unmapped seg is block.0 block.2) shows c (filled_cut filled) (filled.inside page (omega arith) (omega arith)))
@@ -181,13 +181,13 @@ pub put_leaves : {M : Type 0} {clock : M → ℕ} {contents : M → Image} {left
     (at : page ≡ seg.active * seg.table.size + seg.used) (seg_is : IsLayoutOf (contents old) seg) (free : 1 ≤ free_count seg.table) (v s w : ℕ) (main given : List ℕ) (same : main ≡ given)
     (shows : fact_of (written (page_with main v s w)) ≡ Some (v, s, main)) (finished : Type 0) (answer : WriteAnswer) → (finished → answer ≡ write.Done)
     → CrashLeaves clock contents left page (page + 1) (written (page_with main v s w)) old new
-    → Leaves page (page + 1) (written (page_with main v s w)) (contents old) answer (contents new)
+    → OperationLeaves page (page + 1) (written (page_with main v s w)) (contents old) answer (contents new)
     → clock new ≡ ticked (clock old) answer
-    → LeavesOnly clock left old new (Turns finished (clock new) (λ c. Keeps seg.table.size (bound seg) (map_of seg.places (contents old)) (contents old) c)
-    (λ c. Takes seg.table.size (bound seg) (map_of seg.places (contents old)) v s given (contents old) c))
+    → LeavesOnly clock left old new (Turns finished (clock new) (λ c. ImageKeepsMap seg.table.size (bound seg) (map_of seg.places (contents old)) (contents old) c)
+    (λ c. GainsValue seg.table.size (bound seg) (map_of seg.places (contents old)) v s given (contents old) c))
 put_leaves {M} {clock} {contents} {left} {old} {new} seg is room page at seg_is free v s w main given same shows finished answer is_done crash effect ticks =
-    operation_turns finished answer (λ c. Keeps seg.table.size (bound seg) (map_of seg.places (contents old)) (contents old) c)
-    (λ c. Takes seg.table.size (bound seg) (map_of seg.places (contents old)) v s given (contents old) c) is_done crash effect ticks
+    operation_turns finished answer (λ c. ImageKeepsMap seg.table.size (bound seg) (map_of seg.places (contents old)) (contents old) c)
+    (λ c. GainsValue seg.table.size (bound seg) (map_of seg.places (contents old)) v s given (contents old) c) is_done crash effect ticks
     (put_either seg is room page at (contents old) seg_is free v s w main given same shows)
     (λ done. put_takes seg is room page at (contents old) seg_is free v s w main given same shows (contents new)
     (leaves_done page (page + 1) (written (page_with main v s w)) (contents old) answer (contents new) done effect))

@@ -6,17 +6,17 @@ use Rattle.nl_field.specs.Page.{page_at, written}
 use Rattle.nl_blocks.specs.Table.{Table, block_at}
 use Rattle.nl_nand.specs.declared.answers.WriteAnswer.{WriteAnswer}
 use Rattle.nl_nand.specs.declared.nand.Nand.{Ghosts}
-use Rattle.nl_vseg.specs.Cleaning.{KeepsValues, StandsOn}
-use Rattle.nl_vseg.specs.Copying.{SameUse, StaysOrErased}
-use Rattle.nl_vseg.specs.Effects.{Keeps, Programmed, Takes}
-use Rattle.nl_vseg.specs.Layout.{HasSpare, SameShape, bound, wears_of}
+use Rattle.nl_vseg.specs.Cleaning.{KeepsValues, IsStateOfMedium}
+use Rattle.nl_vseg.specs.Copying.{SameFreeBlocks, StaysOrErased}
+use Rattle.nl_vseg.specs.Effects.{ImageKeepsMap, BlockIsProgrammed, GainsValue}
+use Rattle.nl_vseg.specs.Layout.{LayoutHasUnmapped, SameLayoutShape, bound, wears_of}
 use Rattle.nl_vseg.specs.Pages.{page_with}
 use Rattle.nl_vseg.specs.Places.{map_of}
-use Rattle.nl_vseg.specs.Putting.{Puts}
+use Rattle.nl_vseg.specs.Putting.{PutsAtAddress}
 use Rattle.nl_vseg.specs.Seen.{seen, segment_of}
 use Rattle.nl_vseg.specs.Segment.{Segment, wear_of}
 use Rattle.nl_vseg.specs.Used.{KeepsUsed, used_of}
-use Rattle.nl_vseg.specs.Writes.{StillServes, Writes}
+use Rattle.nl_vseg.specs.Writes.{StillServes, WritesValueAt}
 use Rattle.nl_vseg.specs.declared.state.State.{State}
 use Rattle.nl_vseg.proofs.Blocks.{same_then}
 use Rattle.nl_vseg.proofs.Cleaning.{stands_numbered, with_table}
@@ -40,9 +40,9 @@ earlier_before a b d first second strict below = elim (cases_lt b top) [
 
 module _ {M : Type 0} (g : Ghosts M) where
   -- the table is changed, and neither which blocks are Free nor how often each was erased
-  pub puts_sealed : {v stamp : ℕ} {main : List ℕ} {answer : WriteAnswer} {s t : State} {a b : M} (table : Table) → SameUse t.blocks table → KeepsUsed t.blocks table
+  pub puts_sealed : {v stamp : ℕ} {main : List ℕ} {answer : WriteAnswer} {s t : State} {a b : M} (table : Table) → SameFreeBlocks t.blocks table → KeepsUsed t.blocks table
       → ((block : ℕ) → (block_at table block).wear ≡ (block_at t.blocks block).wear) → wears_of table ≡ wears_of t.blocks
-      → Puts g v stamp main answer s t a b → Puts g v stamp main answer s (with_table t table) a b
+      → PutsAtAddress g v stamp main answer s t a b → PutsAtAddress g v stamp main answer s (with_table t table) a b
   puts_sealed {v} {stamp} {main} {answer} {s} {t} {a} {b} table same used wear wears p =
       let used_is : used_of table t.active ≡ used_of t.blocks t.active = used.each t.active p.stands.formed.segment.active_is in
       record {
@@ -63,14 +63,14 @@ module _ {M : Type 0} (g : Ghosts M) where
           ticks = p.writes.ticks;
           counts = p.writes.counts;
         };
-        programmed = λ told done. subst (λ w. Programmed s.blocks.size (bound (seen s)) s.active v stamp w main (g.contents a) (g.contents b)) (sym (wear s.active)) (p.programmed told done);
+        programmed = λ told done. subst (λ w. BlockIsProgrammed s.blocks.size (bound (seen s)) s.active v stamp w main (g.contents a) (g.contents b)) (sym (wear s.active)) (p.programmed told done);
         failed = p.failed;
         write_fault = p.write_fault;
       }
 
   -- by other names of what is done and of the failure
   pub writes_as : {v stamp : ℕ} {main : List ℕ} {D E F G : Type 0} {seg now : Segment} {a b : M} → (D → E) → (E → D) → (F → G) → (G → F)
-      → Writes g v stamp main D F seg now a b → Writes g v stamp main E G seg now a b
+      → WritesValueAt g v stamp main D F seg now a b → WritesValueAt g v stamp main E G seg now a b
   writes_as {v} {stamp} {main} {D} {E} {F} {G} {seg} {now} {a} {b} to from failed_to failed_from w = record {
     stamps = record { taken = λ e. w.stamps.taken (from e); same = λ not. w.stamps.same (λ d. not (to d)) };
     value = λ told.
@@ -90,8 +90,8 @@ module _ {M : Type 0} (g : Ghosts M) where
   }
 
   -- a call that keeps the values, and then a write
-  pub writes_then : {v stamp : ℕ} {main : List ℕ} {D F G : Type 0} {s t : State} (u : State) {a b d : M} → (F → ⊥) → KeepsValues g F s t a b → Writes g v stamp main D G (segment_of t) (segment_of u) b d
-      → Writes g v stamp main D G (segment_of s) (segment_of u) a d
+  pub writes_then : {v stamp : ℕ} {main : List ℕ} {D F G : Type 0} {s t : State} (u : State) {a b d : M} → (F → ⊥) → KeepsValues g F s t a b → WritesValueAt g v stamp main D G (segment_of t) (segment_of u) b d
+      → WritesValueAt g v stamp main D G (segment_of s) (segment_of u) a d
   writes_then {v} {stamp} {main} {D} {F} {G} {s} {t} u {a} {b} {d} not k w = record {
     stamps = record {
       taken = λ done n. w.stamps.taken done n ∙ ap (λ x. if n == v then Some stamp else x) (k.stamps n);
@@ -106,13 +106,13 @@ module _ {M : Type 0} (g : Ghosts M) where
         record {
           map = λ done n. x.map done n ∙ ap (λ y. if n == v then Some (stamp, main) else y) (m.same n);
           same = λ undone n. x.same undone n ∙ m.same n;
-          takes = λ done. takes_from m.same m.keeps (resized (λ size end. Takes size end (map_of mid.places was) v stamp main was new) (seen s) mid k.shape (x.takes done));
+          takes = λ done. takes_from m.same m.keeps (resized (λ size end. GainsValue size end (map_of mid.places was) v stamp main was new) (seen s) mid k.shape (x.takes done));
           either = ⊎_elim (λ y. inl (keeps_from m.same m.keeps y)) (λ y. inr (takes_from m.same m.keeps y))
-              (resized (λ size end. Keeps size end (map_of mid.places was) was new ⊎ Takes size end (map_of mid.places was) v stamp main was new) (seen s) mid k.shape x.either);
-          unused = λ undone unrisen. keeps_from m.same m.keeps (resized (λ size end. Keeps size end (map_of mid.places was) was new) (seen s) mid k.shape
+              (resized (λ size end. ImageKeepsMap size end (map_of mid.places was) was new ⊎ GainsValue size end (map_of mid.places was) v stamp main was new) (seen s) mid k.shape x.either);
+          unused = λ undone unrisen. keeps_from m.same m.keeps (resized (λ size end. ImageKeepsMap size end (map_of mid.places was) was new) (seen s) mid k.shape
               (x.unused undone (λ rose. unrisen (rose_before (g.write_faults a) (g.write_faults b) (g.write_faults d) rose k.counts.more_writes))));
           crash = keeps_turns D m
-              (resized (λ size end. LeavesOnly g.clock g.left b d (Turns D (g.clock d) (λ img. Keeps size end (map_of mid.places was) was img) (λ img. Takes size end (map_of mid.places was) v stamp main was img)))
+              (resized (λ size end. LeavesOnly g.clock g.left b d (Turns D (g.clock d) (λ img. ImageKeepsMap size end (map_of mid.places was) was img) (λ img. GainsValue size end (map_of mid.places was) v stamp main was img)))
               (seen s) mid k.shape x.crash) w.ticks;
         };
     operates = operates_both k.operates (operates_as k.shape.pages w.operates);
@@ -122,7 +122,7 @@ module _ {M : Type 0} (g : Ghosts M) where
   }
 
   -- a call that keeps the values, where no write came to pass
-  pub writes_none : {v stamp : ℕ} {main : List ℕ} {D F : Type 0} {s t : State} {a b : M} → (D → ⊥) → KeepsValues g F s t a b → Writes g v stamp main D F (segment_of s) (segment_of t) a b
+  pub writes_none : {v stamp : ℕ} {main : List ℕ} {D F : Type 0} {s t : State} {a b : M} → (D → ⊥) → KeepsValues g F s t a b → WritesValueAt g v stamp main D F (segment_of s) (segment_of t) a b
   writes_none {v} {stamp} {main} {D} {F} {s} {t} {a} {b} not k = record {
     stamps = record { taken = λ done. absurd (not done); same = λ undone. k.stamps };
     value = λ told.
@@ -142,7 +142,7 @@ module _ {M : Type 0} (g : Ghosts M) where
   }
 
   -- what users see of a state that stands on the medium
-  pub still_serves : (s : State) {t : State} {m : M} → StandsOn g t m → HasSpare (seen t) → SameShape (seen s) (seen t) → StillServes g (segment_of s) (segment_of t) m
+  pub still_serves : (s : State) {t : State} {m : M} → IsStateOfMedium g t m → LayoutHasUnmapped (seen t) → SameLayoutShape (seen s) (seen t) → StillServes g (segment_of s) (segment_of t) m
   still_serves s {t} {m} stands spare shape = record {
     spare = spare_from spare;
     numbers = size_from shape;
@@ -152,13 +152,13 @@ module _ {M : Type 0} (g : Ghosts M) where
   }
 
   -- the one page that was programmed, where pages of its block were erased before or none changed
-  pub programmed_then : {v stamp : ℕ} {main : List ℕ} (s t u : State) {a b d : M} → SameShape (seen s) (seen t) → u.blocks.first ≡ 0
+  pub programmed_then : {v stamp : ℕ} {main : List ℕ} (s t u : State) {a b d : M} → SameLayoutShape (seen s) (seen t) → u.blocks.first ≡ 0
       → StaysOrErased s.blocks.size t.active (g.contents a) (g.contents b)
-      → Programmed t.blocks.size (bound (seen t)) t.active v stamp (block_at u.blocks t.active).wear main (g.contents b) (g.contents d)
-      → (block : ℕ) × Programmed s.blocks.size (bound (seen s)) block v stamp (wear_of (segment_of u) block) main (g.contents a) (g.contents d)
+      → BlockIsProgrammed t.blocks.size (bound (seen t)) t.active v stamp (block_at u.blocks t.active).wear main (g.contents b) (g.contents d)
+      → (block : ℕ) × BlockIsProgrammed s.blocks.size (bound (seen s)) block v stamp (wear_of (segment_of u) block) main (g.contents a) (g.contents d)
   programmed_then {v} {stamp} {main} s t u {a} {b} {d} shape first stays programmed =
       let wear = (block_at u.blocks t.active).wear in
-      let p = resized (λ size end. Programmed size end t.active v stamp wear main (g.contents b) (g.contents d)) (seen s) (seen t) shape programmed in (
+      let p = resized (λ size end. BlockIsProgrammed size end t.active v stamp wear main (g.contents b) (g.contents d)) (seen s) (seen t) shape programmed in (
         t.active,
         record {
           page = p.page;

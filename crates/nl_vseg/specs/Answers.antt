@@ -18,26 +18,26 @@ ReadsPage page wanted buf read.Fault = ⊤
 
 -- What the read of an address answers that has this number: Unmapped exactly where it has none, and Lost with the number that
 -- is wanted and another one that was found.
-abbrev pub ReadsStamp : Option ℕ → PageBytes → VirtualRead → Type 0
-ReadsStamp stamp buf read.Done = stamp ≡ Some (stamp_found buf)
-ReadsStamp stamp buf read.Unmapped = stamp ≡ None
-ReadsStamp stamp buf (read.Lost w f) = (stamp ≡ Some w) × (f ≡ w → ⊥)
-ReadsStamp stamp buf read.Fault = stamp ≡ None → ⊥
+abbrev pub ReadsStampInto : Option ℕ → PageBytes → VirtualRead → Type 0
+ReadsStampInto stamp buf read.Done = stamp ≡ Some (stamp_found buf)
+ReadsStampInto stamp buf read.Unmapped = stamp ≡ None
+ReadsStampInto stamp buf (read.Lost w f) = (stamp ≡ Some w) × (f ≡ w → ⊥)
+ReadsStampInto stamp buf read.Fault = stamp ≡ None → ⊥
 
 -- What the read of an address answers that has this value: the value, and never Lost.
-abbrev pub ReadsValue : Option (ℕ × List ℕ) → PageBytes → VirtualRead → Type 0
-ReadsValue value buf read.Done = value ≡ Some (stamp_found buf, buf.main)
-ReadsValue value buf read.Unmapped = value ≡ None
-ReadsValue value buf (read.Lost w f) = ⊥
-ReadsValue value buf read.Fault = ⊤
+abbrev pub ReadsValueInto : Option (ℕ × List ℕ) → PageBytes → VirtualRead → Type 0
+ReadsValueInto value buf read.Done = value ≡ Some (stamp_found buf, buf.main)
+ReadsValueInto value buf read.Unmapped = value ≡ None
+ReadsValueInto value buf (read.Lost w f) = ⊥
+ReadsValueInto value buf read.Fault = ⊤
 
 -- Lost tells the number of an address, and another one that was found.
-abbrev pub LosesStamp : List (Option Place) → VirtualWrite → Type 0
-LosesStamp places write.Done = ⊤
-LosesStamp places (write.Lost w f) = ((v : ℕ) × (stamp_for places v ≡ Some w)) × (f ≡ w → ⊥)
-LosesStamp places write.Fault = ⊤
+abbrev pub LosesPlaceStamp : List (Option Place) → VirtualWrite → Type 0
+LosesPlaceStamp places write.Done = ⊤
+LosesPlaceStamp places (write.Lost w f) = ((v : ℕ) × (stamp_for places v ≡ Some w)) × (f ≡ w → ⊥)
+LosesPlaceStamp places write.Fault = ⊤
 
-abbrev pub IsLost : VirtualWrite → Type 0
-IsLost write.Done = ⊥
-IsLost (write.Lost w f) = ⊤
-IsLost write.Fault = ⊥
+abbrev pub IsLostWrite : VirtualWrite → Type 0
+IsLostWrite write.Done = ⊥
+IsLostWrite (write.Lost w f) = ⊤
+IsLostWrite write.Fault = ⊥

@@ -7,13 +7,13 @@ use Rattle.nl_field.specs.declared.answers.VirtualWrite.TheVariants as write
 use Rattle.nl_blocks.specs.Table.{Table}
 use Rattle.nl_nand.specs.Nand.{ErasedWithin}
 use Rattle.nl_nand.specs.declared.nand.Nand.{Ghosts}
-use Rattle.nl_vseg.specs.Answers.{IsLost}
-use Rattle.nl_vseg.specs.Copying.{target_at, AreTargets, ChangedIn, IsAt, IsMovedPlace, SameUse}
-use Rattle.nl_vseg.specs.Effects.{Counted}
+use Rattle.nl_vseg.specs.Answers.{IsLostWrite}
+use Rattle.nl_vseg.specs.Copying.{target_at, AreTargets, ChangedIn, IsAt, IsMovedPlace, SameFreeBlocks}
+use Rattle.nl_vseg.specs.Effects.{CallIsCounted}
 use Rattle.nl_vseg.specs.Layout.{ArePlaces, wears_of}
 use Rattle.nl_vseg.specs.Operations.{Operates, snapshot, wear_in}
-use Rattle.nl_vseg.specs.Places.{Holds, map_of, place_of, stamp_in_place}
-use Rattle.nl_vseg.specs.Used.{AreRising, used_of}
+use Rattle.nl_vseg.specs.Places.{PlacesShow, map_of, place_of, stamp_in_place}
+use Rattle.nl_vseg.specs.Used.{OpenBlocksAreRisen, used_of}
 use Rattle.nl_vseg.specs.declared.place.Place.{Place}
 
 -- What has to hold before a page is copied: the medium has the target, another block than the victim, with pages as the table
@@ -27,15 +27,15 @@ pub record CanCopy {M : Type 0} (g : Ghosts M) (pages victim target : ℕ) (plac
   pub first : table.first ≡ 0
   pub within : target < length table.blocks
   pub width : table.size ≡ pages
-  pub rising : AreRising table
+  pub rising : OpenBlocksAreRisen table
   pub other : target ≡ victim → ⊥
   pub few : length places < 2 ^ 32
   pub are_places : ArePlaces pages ((g.geometry medium).blocks * pages) target (used_of table target) places
-  pub holds : g.tells → Holds (g.contents medium) places
+  pub holds : g.tells → PlacesShow (g.contents medium) places
   pub erased : g.tells → ErasedWithin (g.contents medium) (target * pages + used_of table target) (target * pages + pages)
 
 -- After a copy, what has to hold before the next one holds again, and the map is as it was.
-pub record HasCopied {M : Type 0} (g : Ghosts M) (pages victim target : ℕ) (was places : List (Option Place)) (table : Table)
+pub record HasCopiedPlace {M : Type 0} (g : Ghosts M) (pages victim target : ℕ) (was places : List (Option Place)) (table : Table)
     (old new : M) : Type 0 where
   pub next : CanCopy g pages victim target places table new
   pub map : g.tells → (v : ℕ) → map_of places (g.contents new) v ≡ map_of was (g.contents old) v
@@ -44,8 +44,8 @@ pub record HasCopied {M : Type 0} (g : Ghosts M) (pages victim target : ℕ) (wa
 pub record UsesMore (pages block : ℕ) (old new : Table) : Type 0 where
   pub left : used_of new block < pages
   pub more : used_of old block ≤ used_of new block
-  pub rising : AreRising new
-  pub states : SameUse old new
+  pub rising : OpenBlocksAreRisen new
+  pub states : SameFreeBlocks old new
   pub wears : wears_of new ≡ wears_of old
 
 -- Each address has its number, and each but one has its page. Once the copy is done that one has its page too, or the copy.
@@ -71,6 +71,6 @@ pub record ChangesIn {M : Type 0} (g : Ghosts M) (pages target : ℕ) (places : 
 pub record CopiesTo {M : Type 0} (g : Ghosts M) (pages block wear : ℕ) (answer : VirtualWrite) (old new : M) : Type 0 where
   pub operates : (wears : List ℕ) → wear_in wears block ≡ wear
       → Operates g.tells pages (snapshot wears (g.clock old) (g.contents old)) (snapshot wears (g.clock new) (g.contents new))
-  pub told : g.tells → IsLost answer → ⊥
+  pub told : g.tells → IsLostWrite answer → ⊥
   pub geometry : g.geometry new ≡ g.geometry old
-  pub counts : Counted g.clock g.read_faults g.write_faults old new (answer ≡ write.Fault)
+  pub counts : CallIsCounted g.clock g.read_faults g.write_faults old new (answer ≡ write.Fault)

@@ -24,19 +24,19 @@ pub record SameNumbers (old new : Table) : Type 0 where
   pub same_count : length new.blocks ≡ length old.blocks
 
 -- in two tables the same blocks are Free
-pub record SameUse (old new : Table) : Type 0 where
+pub record SameFreeBlocks (old new : Table) : Type 0 where
   pub numbers : SameNumbers old new
   pub free : (block : ℕ) → block_is_free new block ≡ block_is_free old block
   pub total : free_count new ≡ free_count old
 
 -- each block is in the same state, and was erased as often
 pub record SameStates (old new : Table) : Type 0 where
-  pub same : SameUse old new
+  pub same : SameFreeBlocks old new
   pub wears : wears_of new ≡ wears_of old
   pub states : (block : ℕ) → (block_at new block).state ≡ (block_at old block).state
 
 -- the page of a place was marked Live
-pub record IsMarked (place : Option Place) (old new : Table) : Type 0 where
+pub record MarksPlace (place : Option Place) (old new : Table) : Type 0 where
   pub states : SameStates old new
   pub rows : (block : ℕ) → length (block_at new block).pages ≡ length (block_at old block).pages
   pub dead : (block : ℕ) → dead_count (block_at old block) ≤ dead_count (block_at new block) + cond (is_in old.size block place) 1 0
@@ -44,7 +44,7 @@ pub record IsMarked (place : Option Place) (old new : Table) : Type 0 where
   pub here : (p : Place) → place ≡ Some p → (row_page new p.page).state ≡ Live
 
 -- one block is Free now, or not, and the others are as before
-pub record Restated (block : ℕ) (free : Bool) (old new : Table) : Type 0 where
+pub record SetsFree (block : ℕ) (free : Bool) (old new : Table) : Type 0 where
   pub numbers : SameNumbers old new
   pub here : block_is_free new block ≡ free
   pub others : (other : ℕ) → (other ≡ block → ⊥) → block_is_free new other ≡ block_is_free old other

@@ -4,7 +4,7 @@ use Rattle.nl_field.specs.Page.{Image, erased, page_at}
 use Rattle.nl_field.specs.Spelling.{is_stamp}
 use Rattle.std.specs.List.{range_with_len}
 use Rattle.nl_blocks.specs.Table.{Table, block_at, is_free, free_count, wear_of}
-use Rattle.nl_vseg.specs.Places.{Holds, IsUnmapped, place_of}
+use Rattle.nl_vseg.specs.Places.{PlacesShow, IsUnmapped, place_of}
 use Rattle.nl_vseg.specs.Segment.{Segment}
 use Rattle.nl_vseg.specs.declared.place.Place.{Place}
 
@@ -32,13 +32,13 @@ abbrev pub block_is_free : Table → ℕ → Bool
 block_is_free table block = is_free (block_at table block)
 
 -- some block holds no page of the map
-pub record HasSpare (seg : Layout) : Type 0 where
+pub record LayoutHasUnmapped (seg : Layout) : Type 0 where
   pub block : ℕ
   pub within : block < length seg.table.blocks
   pub unmapped : IsUnmapped seg.table.size seg.places block
 
 -- two segments have as many addresses, and as many blocks of as many pages
-pub record SameShape (old new : Layout) : Type 0 where
+pub record SameLayoutShape (old new : Layout) : Type 0 where
   pub addresses : length new.places ≡ length old.places
   pub blocks : length new.table.blocks ≡ length old.table.blocks
   pub pages : new.table.size ≡ old.table.size
@@ -49,25 +49,25 @@ abbrev pub room : Layout → ℕ
 room seg = cond (nat_le 1 (free_count seg.table)) ((seg.table.size - seg.used) + (free_count seg.table - 1) * seg.table.size) 0
 
 -- the page is one of the active block that is not used
-abbrev pub IsNext : Layout → ℕ → Type 0
-IsNext seg p = (seg.active * seg.table.size + seg.used ≤ p) × (p < seg.active * seg.table.size + seg.table.size)
+abbrev pub IsNextOfActive : Layout → ℕ → Type 0
+IsNextOfActive seg p = (seg.active * seg.table.size + seg.used ≤ p) × (p < seg.active * seg.table.size + seg.table.size)
 
 -- The segment takes the page as erased: it is one of the active block that is not used, or one of a Free block that was not
 -- told to be soiled.
-abbrev pub TakenAsErased : Layout → ℕ → Type 0
-TakenAsErased seg p =
+abbrev pub LayoutTakesAsErased : Layout → ℕ → Type 0
+LayoutTakesAsErased seg p =
     (p < bound seg)
-    × (IsNext seg p ⊎ ((block_is_free seg.table (p / seg.table.size) ≡ true) × (is_soiled seg (p / seg.table.size) ≡ false)))
+    × (IsNextOfActive seg p ⊎ ((block_is_free seg.table (p / seg.table.size) ≡ true) × (is_soiled seg (p / seg.table.size) ≡ false)))
 
 -- whether a page is taken as erased, as a test
-unfoldable pub is_taken : Layout → ℕ → Bool
-is_taken seg p = nat_lt p (bound seg)
+unfoldable pub takes_as_erased : Layout → ℕ → Bool
+takes_as_erased seg p = nat_lt p (bound seg)
     && ((nat_le (seg.active * seg.table.size + seg.used) p && nat_lt p (seg.active * seg.table.size + seg.table.size))
     || (block_is_free seg.table (p / seg.table.size) && not (is_soiled seg (p / seg.table.size))))
 
 -- the choice for each page
 unfoldable pub blanks : Layout → List Bool
-blanks seg = map (is_taken seg) (range_with_len 0 (bound seg))
+blanks seg = map (takes_as_erased seg) (range_with_len 0 (bound seg))
 
 -- the wear of each block
 unfoldable pub wears_of : Table → List ℕ
@@ -86,8 +86,8 @@ shown seg = record {
 
 -- The image is one of this segment: each place holds its address, and what the segment takes as erased is erased.
 pub record IsLayoutOf (image : Image) (seg : Layout) : Type 0 where
-  pub holds : Holds image seg.places
-  pub blank : (p : ℕ) → TakenAsErased seg p → page_at image p ≡ erased
+  pub holds : PlacesShow image seg.places
+  pub blank : (p : ℕ) → LayoutTakesAsErased seg p → page_at image p ≡ erased
 
 -- A place is below the bound, and not one of the next pages of the active block.
 pub record IsPlace (pages bound active used : ℕ) (place : Place) : Type 0 where

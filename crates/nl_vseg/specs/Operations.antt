@@ -2,7 +2,7 @@
 use Rattle.std.specs.Prelude.{◌≡◌, ℕ, ◌+◌, ◌*◌, ◌/◌, List, [], ◌∷◌, slice_index_or, slice_set}
 use Rattle.nl_field.specs.Page.{Image, erased, written}
 use Rattle.nl_blocks.specs.Table.{worn}
-use Rattle.nl_nand.specs.Nand.{Leaves, ticked}
+use Rattle.nl_nand.specs.Nand.{OperationLeaves, ticked}
 use Rattle.nl_nand.specs.declared.answers.WriteAnswer.{WriteAnswer}
 use Rattle.nl_nand.specs.declared.answers.WriteAnswer.TheVariants as write
 use Rattle.nl_vseg.specs.Pages.{page_with}
@@ -30,27 +30,27 @@ wears_after write.Done block wears = slice_set wears block (worn (wear_in wears 
 wears_after write.Failed block wears = wears
 
 -- A program, which writes the wear of its block and leaves the wears.
-pub record Programs (told : Type 0) (pages page address stamp : ℕ) (main : List ℕ) (answer : WriteAnswer)
+pub record ProgramsInSnapshot (told : Type 0) (pages page address stamp : ℕ) (main : List ℕ) (answer : WriteAnswer)
     (old new : Snapshot) : Type 0 where
   pub same_wears : new.wears ≡ old.wears
   pub ticks : new.clock ≡ ticked old.clock answer
-  pub leaves : told → Leaves page (page + 1)
+  pub leaves : told → OperationLeaves page (page + 1)
       (written (page_with main address stamp (wear_in old.wears (page / pages)))) old.image answer new.image
 
 -- An erase of a block, after which its wear is one more, where it finished.
-pub record Erases (told : Type 0) (pages block : ℕ) (answer : WriteAnswer) (old new : Snapshot) : Type 0 where
+pub record ErasesInSnapshot (told : Type 0) (pages block : ℕ) (answer : WriteAnswer) (old new : Snapshot) : Type 0 where
   pub wears_then : new.wears ≡ wears_after answer block old.wears
   pub ticks : new.clock ≡ ticked old.clock answer
-  pub leaves : told → Leaves (block * pages) (block * pages + pages) erased old.image answer new.image
+  pub leaves : told → OperationLeaves (block * pages) (block * pages + pages) erased old.image answer new.image
 
-abbrev pub Does : Type 0 → ℕ → Operation → Snapshot → Snapshot → Type 0
-Does told pages (Program page address stamp main answer) old new = Programs told pages page address stamp main answer old new
-Does told pages (Erase block answer) old new = Erases told pages block answer old new
+abbrev pub DoesOperation : Type 0 → ℕ → Operation → Snapshot → Snapshot → Type 0
+DoesOperation told pages (Program page address stamp main answer) old new = ProgramsInSnapshot told pages page address stamp main answer old new
+DoesOperation told pages (Erase block answer) old new = ErasesInSnapshot told pages block answer old new
 
 -- one operation after the other
 unfoldable pub DoesEach : Type 0 → ℕ → List Operation → Snapshot → Snapshot → Type 0
 DoesEach told pages [] old new = new ≡ old
-DoesEach told pages (o ∷ os) old new = (middle : Snapshot) × (Does told pages o old middle × DoesEach told pages os middle new)
+DoesEach told pages (o ∷ os) old new = (middle : Snapshot) × (DoesOperation told pages o old middle × DoesEach told pages os middle new)
 
 -- The call did some programs and erases, and nothing else to the medium and the wear. The contents are spoken of where the
 -- medium tells them.

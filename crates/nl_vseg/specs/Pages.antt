@@ -24,8 +24,8 @@ fact_of uncorrectable = None
 fact_of (written bytes) = fact_with (spare_rec_of bytes.spare) bytes.main
 
 -- a page below this one shows it
-abbrev pub Shows : ℕ → Image → ℕ → ℕ → List ℕ → Type 0
-Shows bound image v s main = (p : ℕ) × (p < bound) × (fact_of (page_at image p) ≡ Some (v, s, main))
+abbrev pub PageShows : ℕ → Image → ℕ → ℕ → List ℕ → Type 0
+PageShows bound image v s main = (p : ℕ) × (p < bound) × (fact_of (page_at image p) ≡ Some (v, s, main))
 
 -- the page is not in the block of that number
 abbrev pub IsBeside : ℕ → ℕ → ℕ → Type 0

@@ -28,8 +28,8 @@ abbrev pub IsUnmapped : ℕ → List (Option Place) → ℕ → Type 0
 IsUnmapped pages places block = (v : ℕ) (place : Place) → place_of places v ≡ Some place → IsBeside pages block place.page
 
 -- the page of each place shows the address and its number
-abbrev pub Holds : Image → List (Option Place) → Type 0
-Holds image places =
+abbrev pub PlacesShow : Image → List (Option Place) → Type 0
+PlacesShow image places =
     (v : ℕ) (place : Place) → place_of places v ≡ Some place
     → fact_of (page_at image place.page) ≡ Some (v, place.stamp, main_of (page_at image place.page))
 

@@ -3,7 +3,7 @@ use Rattle.std.specs.Prelude.{◌≡◌, ◌≤◌, length}
 use Rattle.nl_nand.specs.declared.geometry.Geometry.{Geometry}
 use Rattle.nl_vseg.specs.Layout.{Layout, IsLayout, shown}
 use Rattle.nl_vseg.specs.Segment.{Segment}
-use Rattle.nl_vseg.specs.Used.{AreRising, used_of}
+use Rattle.nl_vseg.specs.Used.{OpenBlocksAreRisen, used_of}
 use Rattle.nl_vseg.specs.declared.state.State.{State}
 
 abbrev pub seen : State → Layout
@@ -14,9 +14,9 @@ abbrev pub segment_of : State → Segment
 segment_of s = shown (seen s)
 
 -- what holds of every state
-pub record IsFormed (s : State) : Type 0 where
+pub record IsVirtualFormed (s : State) : Type 0 where
   pub segment : IsLayout (seen s)
-  pub rising : AreRising s.blocks
+  pub rising : OpenBlocksAreRisen s.blocks
   pub copies : length s.copies.items ≡ length s.places.items
   pub targets : length s.targets.items ≡ s.blocks.size
 

@@ -2,7 +2,7 @@
 use Rattle.std.specs.Prelude.{◌≡◌, ℕ, ◌+◌, ◌*◌, ◌≤◌, Bool, true, false, List, length, slice_index_or, Option}
 use Rattle.nl_field.specs.Page.{Image, erased, page_at}
 use Rattle.nl_nand.specs.declared.geometry.Geometry.{Geometry}
-use Rattle.nl_vseg.specs.Places.{Holds, IsUnmapped}
+use Rattle.nl_vseg.specs.Places.{PlacesShow, IsUnmapped}
 use Rattle.nl_vseg.specs.declared.place.Place.{Place}
 
 -- The place of each address; the pages of a block, and the number behind the last page of the segment; how many pages can be
@@ -17,15 +17,15 @@ pub record Segment : Type 0 where
   pub wears : List ℕ
 
 -- the segment takes the page of this number as erased
-abbrev pub is_blank : Segment → ℕ → Bool
-is_blank seg p = slice_index_or seg.blank p false
+abbrev pub is_taken_as_erased : Segment → ℕ → Bool
+is_taken_as_erased seg p = slice_index_or seg.blank p false
 
 -- how often the block of this number was erased
 abbrev pub wear_of : Segment → ℕ → ℕ
 wear_of seg block = slice_index_or seg.wears block 0
 
 -- some block holds no page of the map
-pub record KeepsSpare (seg : Segment) : Type 0 where
+pub record SegmentHasUnmapped (seg : Segment) : Type 0 where
   pub block : ℕ
   pub within : block * seg.pages + seg.pages ≤ seg.bound
   pub unmapped : IsUnmapped seg.pages seg.places block
@@ -37,12 +37,12 @@ pub record SameSize (old new : Segment) : Type 0 where
   pub same_bound : new.bound ≡ old.bound
 
 -- the medium has blocks of as many pages, and at least as many pages
-pub record Fits (geometry : Geometry) (seg : Segment) : Type 0 where
+pub record FitsSegment (geometry : Geometry) (seg : Segment) : Type 0 where
   pub same_pages : geometry.pages ≡ seg.pages
   pub within : seg.bound ≤ geometry.blocks * geometry.pages
 
 -- The image is one of this segment: the page of each place shows the address and its number, and what the segment takes as
 -- erased is erased.
 pub record IsSegmentOf (image : Image) (seg : Segment) : Type 0 where
-  pub holds : Holds image seg.places
-  pub erased_is : (p : ℕ) → is_blank seg p ≡ true → page_at image p ≡ erased
+  pub holds : PlacesShow image seg.places
+  pub erased_is : (p : ℕ) → is_taken_as_erased seg p ≡ true → page_at image p ≡ erased

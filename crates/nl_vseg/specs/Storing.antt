@@ -2,7 +2,7 @@
 use Rattle.std.specs.Prelude.{◌≡◌, ◌⊎◌, ℕ, ◌==◌, if◌then◌else◌, List, Option, Some}
 use Rattle.nl_field.specs.CrashStates.{LeavesOnly, Rose, Turns}
 use Rattle.nl_field.specs.Page.{Image}
-use Rattle.nl_vseg.specs.Effects.{Keeps, Takes}
+use Rattle.nl_vseg.specs.Effects.{ImageKeepsMap, GainsValue}
 use Rattle.nl_vseg.specs.Maps.{with_at}
 use Rattle.nl_vseg.specs.Places.{map_of, stamp_for}
 use Rattle.nl_vseg.specs.Segment.{Segment}
@@ -19,11 +19,11 @@ pub record WritesValue {M : Type 0} (clock write_faults : M → ℕ) (contents :
     (main : List ℕ) (done : Type 0) (seg now : Segment) (old new : M) : Type 0 where
   pub map : done → (u : ℕ) → map_of now.places (contents new) u ≡ with_at (map_of seg.places (contents old)) v (s, main) u
   pub same : (done → ⊥) → (u : ℕ) → map_of now.places (contents new) u ≡ map_of seg.places (contents old) u
-  pub takes : done → Takes seg.pages seg.bound (map_of seg.places (contents old)) v s main (contents old) (contents new)
-  pub either : Keeps seg.pages seg.bound (map_of seg.places (contents old)) (contents old) (contents new)
-      ⊎ Takes seg.pages seg.bound (map_of seg.places (contents old)) v s main (contents old) (contents new)
+  pub takes : done → GainsValue seg.pages seg.bound (map_of seg.places (contents old)) v s main (contents old) (contents new)
+  pub either : ImageKeepsMap seg.pages seg.bound (map_of seg.places (contents old)) (contents old) (contents new)
+      ⊎ GainsValue seg.pages seg.bound (map_of seg.places (contents old)) v s main (contents old) (contents new)
   pub unused : (done → ⊥) → (Rose (write_faults old) (write_faults new) → ⊥)
-      → Keeps seg.pages seg.bound (map_of seg.places (contents old)) (contents old) (contents new)
+      → ImageKeepsMap seg.pages seg.bound (map_of seg.places (contents old)) (contents old) (contents new)
   pub crash : LeavesOnly clock left old new (Turns done (clock new)
-      (λ c. Keeps seg.pages seg.bound (map_of seg.places (contents old)) (contents old) c)
-      (λ c. Takes seg.pages seg.bound (map_of seg.places (contents old)) v s main (contents old) c))
+      (λ c. ImageKeepsMap seg.pages seg.bound (map_of seg.places (contents old)) (contents old) c)
+      (λ c. GainsValue seg.pages seg.bound (map_of seg.places (contents old)) v s main (contents old) c))

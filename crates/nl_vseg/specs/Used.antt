@@ -3,7 +3,7 @@ use Rattle.std.specs.Prelude.{◌≡◌, ℕ, ◌+◌, ◌<◌, Bool, true, fals
 use Rattle.nl_blocks.specs.declared.states.BlockState.{BlockState}
 use Rattle.nl_blocks.specs.declared.states.BlockState.TheVariants.{Free, Active, Target, Sealed, Victim, Retired}
 use Rattle.nl_blocks.specs.Table.{Table}
-use Rattle.nl_blocks.specs.Used.{IsRising, used_in}
+use Rattle.nl_blocks.specs.Used.{BlocksAreRisen, used_in}
 
 -- a block in this state was taken, and can be programmed
 abbrev pub is_open_state : BlockState → Bool
@@ -19,26 +19,26 @@ abbrev pub used_of : Table → ℕ → ℕ
 used_of table block = used_in is_open_state table block
 
 -- in each open block the marked pages stand before the others
-abbrev pub AreRising : Table → Type 0
-AreRising table = IsRising is_open_state table
+abbrev pub OpenBlocksAreRisen : Table → Type 0
+OpenBlocksAreRisen table = BlocksAreRisen is_open_state table
 
 -- Each page of the block counts as used, and as many pages of each other block are used as before.
 pub record IsClosed (block : ℕ) (old new : Table) : Type 0 where
   pub full : used_of new block ≡ new.size
   pub others : (other : ℕ) → other < length old.blocks → (other ≡ block → ⊥) → used_of new other ≡ used_of old other
-  pub rising : AreRising old → AreRising new
+  pub rising : OpenBlocksAreRisen old → OpenBlocksAreRisen new
 
 -- as many pages of each block are used as before
 pub record KeepsUsed (old new : Table) : Type 0 where
   pub each : (block : ℕ) → block < length old.blocks → used_of new block ≡ used_of old block
-  pub rising : AreRising old → AreRising new
+  pub rising : OpenBlocksAreRisen old → OpenBlocksAreRisen new
 
 -- No page of the block is used.
-pub record IsOpened (block : ℕ) (old new : Table) : Type 0 where
+pub record IsUnusedBlock (block : ℕ) (old new : Table) : Type 0 where
   pub none : used_of new block ≡ 0
-  pub rising : AreRising old → AreRising new
+  pub rising : OpenBlocksAreRisen old → OpenBlocksAreRisen new
 
 -- One page more of the block is used.
 pub record UsesNext (block : ℕ) (old new : Table) : Type 0 where
   pub more : used_of new block ≡ used_of old block + 1
-  pub rising : AreRising new
+  pub rising : OpenBlocksAreRisen new

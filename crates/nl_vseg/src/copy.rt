@@ -7,10 +7,10 @@ ghost use Rattle.nl_nand.specs.Nand.{CanProgram, Cut, Filled};
 ghost use Rattle.nl_vseg.specs.Pages.{fact_of, main_of};
 ghost use Rattle.nl_vseg.specs.Places.{IsUnmapped, place_of, stamp_in_place};
 ghost use Rattle.nl_vseg.specs.Used.{used_of};
-ghost use Rattle.nl_vseg.specs.Copies.{CanCopy, ChangesIn, CopiesTo, HasCopied, MarksCopy, MovesPlace, UsesMore};
+ghost use Rattle.nl_vseg.specs.Copies.{CanCopy, ChangesIn, CopiesTo, HasCopiedPlace, MarksCopy, MovesPlace, UsesMore};
 ghost use Rattle.nl_vseg.specs.Copying.{copy_of, target_at, AreMoved, AreTargets, ChangedIn, HasHole, IsAt, LeavesHole};
-ghost use Rattle.nl_vseg.specs.Effects.{Counted};
-ghost use Rattle.nl_vseg.specs.Answers.{IsLost};
+ghost use Rattle.nl_vseg.specs.Effects.{CallIsCounted};
+ghost use Rattle.nl_vseg.specs.Answers.{IsLostWrite};
 ghost use Rattle.nl_vseg.specs.Operations.{Operates, snapshot, wear_in};
 ghost use Rattle.nl_vseg.specs.declared.place.Place.{Place as PlaceOf};
 
@@ -46,12 +46,12 @@ fn copy_page<M: Nand>(
     ensures copied { M.tells → fact_of (copy_of (page_at (M.contents media.old) place.page) vaddr place.stamp wear)
         ≡ fact_of (page_at (M.contents media.old) place.page) }
     ensures lost { (w f : ℕ) → result ≡ VirtualWrite.Lost w f → (w ≡ place.stamp) × (f ≡ place.stamp → ⊥) }
-    ensures kept { M.tells → IsLost result → ⊥ }
+    ensures kept { M.tells → IsLostWrite result → ⊥ }
     ensures operates { (pages : ℕ) (wears : List ℕ) → wear_in wears (to / pages) ≡ wear
         → Operates M.tells pages (snapshot wears (M.clock media.old) (M.contents media.old))
         (snapshot wears (M.clock media.new) (M.contents media.new)) }
     ensures geometry { M.geometry media.new ≡ M.geometry media.old }
-    ensures counts { Counted M.clock M.read_faults M.write_faults media.old media.new (result ≡ VirtualWrite.Fault) }
+    ensures counts { CallIsCounted M.clock M.read_faults M.write_faults media.old media.new (result ≡ VirtualWrite.Fault) }
 {
     match read_page(media, place.page, place.stamp, buf) {
         VirtualRead::Done => {}
@@ -87,7 +87,7 @@ fn copy_one<M: Nand>(
         → IsAt pages victim at (place_of copies.old.items v) → ⊥ }
     ensures used { UsesMore pages target blocks.old blocks.new }
     ensures done { result ≡ VirtualWrite.Done
-        → HasCopied M.Nand pages victim target copies.old.items copies.new.items blocks.new media.old media.new }
+        → HasCopiedPlace M.Nand pages victim target copies.old.items copies.new.items blocks.new media.old media.new }
     ensures places { MovesPlace pages victim target (used_of blocks.new target) v
         (result ≡ VirtualWrite.Done) copies.old.items copies.new.items }
     ensures targets { MarksCopy pages victim target (used_of blocks.new target) (place_of copies.old.items v)
@@ -154,7 +154,7 @@ pub fn copy_block<M: Nand>(
     requires hole { HasHole pages victim copies.old.items }
     ensures used { UsesMore pages target blocks.old blocks.new }
     ensures done { result ≡ VirtualWrite.Done
-        → HasCopied M.Nand pages victim target copies.old.items copies.new.items blocks.new media.old media.new }
+        → HasCopiedPlace M.Nand pages victim target copies.old.items copies.new.items blocks.new media.old media.new }
     ensures moved { result ≡ VirtualWrite.Done
         → AreMoved pages victim target (used_of blocks.new target) copies.old.items copies.new.items }
     ensures count { length copies.new.items ≡ length copies.old.items }

@@ -4,7 +4,7 @@ ghost use Rattle.nl_field.specs.Page.{page_at, written};
 ghost use Rattle.nl_field.specs.Spelling.{is_stamp};
 ghost use Rattle.nl_field.specs.SpareRecord.{spare_bytes, spare_rec_of};
 ghost use Rattle.nl_field.specs.declared.spare.SpareRec.TheVariants.{Virtual};
-ghost use Rattle.nl_nand.specs.Nand.{CanProgram, Leaves, CrashLeaves, FaultsCounted, OnlyReads, OperationCounted};
+ghost use Rattle.nl_nand.specs.Nand.{CanProgram, OperationLeaves, CrashLeaves, FaultsCounted, MediumOnlyRead, OperationCounted};
 ghost use Rattle.nl_vseg.specs.Pages.{fact_of, page_with, stamp_found};
 ghost use Rattle.nl_vseg.specs.Answers.{ReadsPage};
 
@@ -30,7 +30,7 @@ pub fn read_page<M: Nand>(media: &mut M, page: u32, wanted: u64, buf: &mut PageB
     ensures stamp { result ≡ VirtualRead.Done → stamp_found buf.new ≡ wanted }
     ensures mapped { result ≡ VirtualRead.Unmapped → ⊥ }
     ensures lost { (w f : ℕ) → result ≡ VirtualRead.Lost w f → (w ≡ wanted) × (f ≡ wanted → ⊥) }
-    ensures only_reads { OnlyReads M.geometry M.contents M.clock M.write_faults M.left media.old media.new }
+    ensures only_reads { MediumOnlyRead M.geometry M.contents M.clock M.write_faults M.left media.old media.new }
     ensures read_faults { FaultsCounted (M.read_faults media.old) (M.read_faults media.new) (result ≡ VirtualRead.Fault) }
 {
     let found = match media.read(page, buf) {
@@ -58,7 +58,7 @@ pub fn program_page<M: Nand>(
     requires erased { M.tells → CanProgram (M.contents media.old) page }
     requires spelled { IsTrue (is_stamp stamp) }
     ensures shows { fact_of (written (page_with buf.old.main vaddr stamp wear)) ≡ Some (vaddr, stamp, buf.old.main) }
-    ensures effect { M.tells → Leaves page (page + 1) (written (page_with buf.old.main vaddr stamp wear))
+    ensures effect { M.tells → OperationLeaves page (page + 1) (written (page_with buf.old.main vaddr stamp wear))
         (M.contents media.old) result (M.contents media.new) }
     ensures crash { CrashLeaves M.clock M.contents M.left page (page + 1)
         (written (page_with buf.old.main vaddr stamp wear)) media.old media.new }

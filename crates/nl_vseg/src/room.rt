@@ -3,11 +3,11 @@ ghost use Rattle.std.specs.Prelude.{◌≡◌, ℕ, ◌/◌, ◌<◌, ◌≤◌,
 ghost use Rattle.nl_field.specs.Page.{erased, page_at};
 ghost use Rattle.nl_blocks.specs.Table.{block_at, free_count};
 ghost use Rattle.nl_vseg.specs.Places.{IsUnmapped};
-ghost use Rattle.nl_vseg.specs.Layout.{IsLayoutOf, HasSpare, TakenAsErased, block_is_free, closed, is_soiled, room, wears_of};
-ghost use Rattle.nl_vseg.specs.Seen.{seen, IsFormed, FitsLayout};
-ghost use Rattle.nl_vseg.specs.Cleaning.{Frees, GivesBack, KeepsValues, LosesUntold, Opens, StandsOn, Vacates};
-ghost use Rattle.nl_vseg.specs.Copying.{HasHole, Restated, SameUse, StaysOrErased};
-ghost use Rattle.nl_vseg.specs.Used.{IsClosed, IsOpened, KeepsUsed};
+ghost use Rattle.nl_vseg.specs.Layout.{IsLayoutOf, LayoutHasUnmapped, LayoutTakesAsErased, block_is_free, closed, is_soiled, room, wears_of};
+ghost use Rattle.nl_vseg.specs.Seen.{seen, IsVirtualFormed, FitsLayout};
+ghost use Rattle.nl_vseg.specs.Cleaning.{FreesBlock, GivesBackActive, KeepsValues, LosesUntold, OpensActiveBlock, IsStateOfMedium, Vacates};
+ghost use Rattle.nl_vseg.specs.Copying.{HasHole, SetsFree, SameFreeBlocks, StaysOrErased};
+ghost use Rattle.nl_vseg.specs.Used.{IsClosed, IsUnusedBlock, KeepsUsed};
 ghost use Rattle.nl_vseg.specs.Operations.{wears_after};
 
 use crate::copy::{clear, copy_block};
@@ -25,8 +25,8 @@ fn take(blocks: &mut Blocks) -> u32
     requires free { 1 ≤ free_count blocks.old }
     ensures within { result < length blocks.old.blocks }
     ensures was_free { block_is_free blocks.old result ≡ true }
-    ensures taken { Restated result false blocks.old blocks.new }
-    ensures used { IsOpened result blocks.old blocks.new }
+    ensures taken { SetsFree result false blocks.old blocks.new }
+    ensures used { IsUnusedBlock result blocks.old blocks.new }
     ensures wears { wears_of blocks.new ≡ wears_of blocks.old }
 {
     let taken = if blocks.free() < 2 {
@@ -44,7 +44,7 @@ fn take(blocks: &mut Blocks) -> u32
 fn free_block(blocks: &mut Blocks, block: u32, soiled: bool)
     requires first { blocks.old.first ≡ 0 }
     requires within { block < length blocks.old.blocks }
-    ensures states { Restated block true blocks.old blocks.new }
+    ensures states { SetsFree block true blocks.old blocks.new }
     ensures used { IsClosed block blocks.old blocks.new }
     ensures kept { soiled ≡ true → wears_of blocks.new ≡ wears_of blocks.old }
     ensures worn { soiled ≡ false → wears_of blocks.new ≡ wears_after WriteAnswer.Done block (wears_of blocks.old) }
@@ -60,7 +60,7 @@ fn free_block(blocks: &mut Blocks, block: u32, soiled: bool)
 fn wear_out(blocks: &mut Blocks, block: u32)
     requires first { blocks.old.first ≡ 0 }
     requires within { block < length blocks.old.blocks }
-    ensures states { SameUse blocks.old blocks.new }
+    ensures states { SameFreeBlocks blocks.old blocks.new }
     ensures used { KeepsUsed blocks.old blocks.new }
     ensures worn { wears_of blocks.new ≡ wears_after WriteAnswer.Done block (wears_of blocks.old) }
 {
@@ -79,7 +79,7 @@ fn is_free(blocks: &Blocks, block: u32) -> bool
 pub fn set_wear(blocks: &mut Blocks, block: u32, wear: u32)
     requires first { blocks.old.first ≡ 0 }
     requires within { block < length blocks.old.blocks }
-    ensures states { SameUse blocks.old blocks.new }
+    ensures states { SameFreeBlocks blocks.old blocks.new }
     ensures used { IsClosed block blocks.old blocks.new }
     ensures wear { (block_at blocks.new block).wear ≡ wear }
     ensures others { (other : ℕ) → (other ≡ block → ⊥) → (block_at blocks.new other).wear ≡ (block_at blocks.old other).wear }
@@ -96,17 +96,17 @@ pub fn set_wear(blocks: &mut Blocks, block: u32, wear: u32)
 impl State {
     /// A block that holds no page of the map is Free. It was erased, or it is soiled and erased before use.
     fn set_free(&mut self, block: u32, soiled: bool)
-        requires formed { IsFormed self.old }
+        requires formed { IsVirtualFormed self.old }
         requires within { block < length self.old.blocks.blocks }
         requires unmapped { IsUnmapped self.old.blocks.size self.old.places.items block }
-        ensures formed { IsFormed self.new }
-        ensures free { Frees block self.old self.new }
+        ensures formed { IsVirtualFormed self.new }
+        ensures free { FreesBlock block self.old self.new }
         ensures kept { soiled ≡ true → wears_of self.new.blocks ≡ wears_of self.old.blocks }
         ensures worn { soiled ≡ false → wears_of self.new.blocks ≡ wears_after WriteAnswer.Done block (wears_of self.old.blocks) }
         ensures soiled { is_soiled (seen self.new) block ≡ soiled }
-        ensures erased { (p : ℕ) → TakenAsErased (seen self.new) p
+        ensures erased { (p : ℕ) → LayoutTakesAsErased (seen self.new) p
             → (p / self.old.blocks.size ≡ block → soiled ≡ false)
-            × ((p / self.old.blocks.size ≡ block → ⊥) → TakenAsErased (seen self.old) p) }
+            × ((p / self.old.blocks.size ≡ block → ⊥) → LayoutTakesAsErased (seen self.old) p) }
     {
         free_block(&mut self.blocks, block, soiled);
         self.soiled[block as usize] = soiled;
@@ -114,11 +114,11 @@ impl State {
 
     /// Erases a block that holds no page of the map. It is Free.
     fn erase<M: Nand>(&mut self, media: &mut M, block: u32) -> WriteAnswer
-        requires stands { StandsOn M.Nand self.old media.old }
+        requires stands { IsStateOfMedium M.Nand self.old media.old }
         requires within { block < length self.old.blocks.blocks }
         requires unmapped { IsUnmapped self.old.blocks.size self.old.places.items block }
         ensures keeps { KeepsValues M.Nand (result ≡ WriteAnswer.Failed) self.old self.new media.old media.new }
-        ensures free { Frees block self.old self.new }
+        ensures free { FreesBlock block self.old self.new }
         ensures blank { M.tells → result ≡ WriteAnswer.Done → (p : ℕ) → p / self.old.blocks.size ≡ block
             → page_at (M.contents media.new) p ≡ erased }
         ensures others { M.tells → (p : ℕ) → (p / self.old.blocks.size ≡ block → ⊥)
@@ -138,16 +138,16 @@ impl State {
 
     /// A block that is in use and holds no page of the map was erased.
     fn set_worn(&mut self, block: u32)
-        requires formed { IsFormed self.old }
+        requires formed { IsVirtualFormed self.old }
         requires within { block < length self.old.blocks.blocks }
-        ensures formed { IsFormed self.new }
+        ensures formed { IsVirtualFormed self.new }
         ensures places { self.new.places.items ≡ self.old.places.items }
         ensures used { (seen self.new).used ≡ (seen self.old).used }
         ensures active { self.new.active ≡ self.old.active }
-        ensures states { SameUse self.old.blocks self.new.blocks }
+        ensures states { SameFreeBlocks self.old.blocks self.new.blocks }
         ensures worn { wears_of self.new.blocks ≡ wears_after WriteAnswer.Done block (wears_of self.old.blocks) }
-        ensures erased { (p : ℕ) → TakenAsErased (seen self.new) p → (p / self.old.blocks.size ≡ block → ⊥)
-            → TakenAsErased (seen self.old) p }
+        ensures erased { (p : ℕ) → LayoutTakesAsErased (seen self.new) p → (p / self.old.blocks.size ≡ block → ⊥)
+            → LayoutTakesAsErased (seen self.old) p }
     {
         wear_out(&mut self.blocks, block);
         self.soiled[block as usize] = false;
@@ -155,16 +155,16 @@ impl State {
 
     /// Erases the active block before its pages are used. It stays in use; where the erase fails, it is Free.
     fn erase_active<M: Nand>(&mut self, media: &mut M) -> WriteAnswer
-        requires formed { IsFormed self.old }
+        requires formed { IsVirtualFormed self.old }
         requires fits { FitsLayout (M.geometry media.old) (seen self.old) }
         requires unmapped { IsUnmapped self.old.blocks.size self.old.places.items self.old.active }
         requires segment { M.tells → IsLayoutOf (M.contents media.old) (closed (seen self.old)) }
         ensures keeps { KeepsValues M.Nand (result ≡ WriteAnswer.Failed) self.old self.new media.old media.new }
         ensures places { self.new.places.items ≡ self.old.places.items }
         ensures active { self.new.active ≡ self.old.active }
-        ensures kept { result ≡ WriteAnswer.Done → SameUse self.old.blocks self.new.blocks }
+        ensures kept { result ≡ WriteAnswer.Done → SameFreeBlocks self.old.blocks self.new.blocks }
         ensures used { result ≡ WriteAnswer.Done → (seen self.new).used ≡ (seen self.old).used }
-        ensures given { result ≡ WriteAnswer.Failed → GivesBack self.old self.new }
+        ensures given { result ≡ WriteAnswer.Failed → GivesBackActive self.old self.new }
         ensures blank { M.tells → result ≡ WriteAnswer.Done → (p : ℕ) → p / self.old.blocks.size ≡ self.old.active
             → page_at (M.contents media.new) p ≡ erased }
         ensures others { M.tells → (p : ℕ) → (p / self.old.blocks.size ≡ self.old.active → ⊥)
@@ -185,14 +185,14 @@ impl State {
 
     /// Makes a Free block the active one, and erases it first where it is soiled.
     fn start<M: Nand>(&mut self, media: &mut M) -> WriteAnswer
-        requires stands { StandsOn M.Nand self.old media.old }
+        requires stands { IsStateOfMedium M.Nand self.old media.old }
         requires closed { (seen self.old).used ≡ self.old.blocks.size }
         requires free { 1 ≤ free_count self.old.blocks }
         ensures keeps { KeepsValues M.Nand (result ≡ WriteAnswer.Failed) self.old self.new media.old media.new }
         ensures places { self.new.places.items ≡ self.old.places.items }
-        ensures same { result ≡ WriteAnswer.Failed → SameUse self.old.blocks self.new.blocks }
+        ensures same { result ≡ WriteAnswer.Failed → SameFreeBlocks self.old.blocks self.new.blocks }
         ensures closed { result ≡ WriteAnswer.Failed → (seen self.new).used ≡ self.new.blocks.size }
-        ensures opened { result ≡ WriteAnswer.Done → Opens self.old self.new }
+        ensures opened { result ≡ WriteAnswer.Done → OpensActiveBlock self.old self.new }
         ensures others { M.tells → result ≡ WriteAnswer.Done
             → StaysOrErased self.old.blocks.size self.new.active (M.contents media.old) (M.contents media.new) }
     {
@@ -206,13 +206,13 @@ impl State {
 
     /// Leaves the active block, which holds no page of the map. It is Free, and erased before use.
     fn give_back(&mut self)
-        requires formed { IsFormed self.old }
+        requires formed { IsVirtualFormed self.old }
         requires unmapped { IsUnmapped self.old.blocks.size self.old.places.items self.old.active }
-        ensures formed { IsFormed self.new }
-        ensures given { GivesBack self.old self.new }
+        ensures formed { IsVirtualFormed self.new }
+        ensures given { GivesBackActive self.old self.new }
         ensures wears { wears_of self.new.blocks ≡ wears_of self.old.blocks }
-        ensures erased { (p : ℕ) → TakenAsErased (seen self.new) p
-            → TakenAsErased (seen self.old) p × (p / self.old.blocks.size ≡ self.old.active → ⊥) }
+        ensures erased { (p : ℕ) → LayoutTakesAsErased (seen self.new) p
+            → LayoutTakesAsErased (seen self.old) p × (p / self.old.blocks.size ≡ self.old.active → ⊥) }
     {
         let block = self.active;
         self.set_free(block, true);
@@ -220,14 +220,14 @@ impl State {
 
     /// Copies the pages of the victim that addresses have to the active block. The map has the copies once all are made.
     fn move_pages<M: Nand>(&mut self, media: &mut M, victim: u32) -> VirtualWrite
-        requires stands { StandsOn M.Nand self.old media.old }
+        requires stands { IsStateOfMedium M.Nand self.old media.old }
         requires begins { (seen self.old).used ≡ 0 }
         requires unmapped { IsUnmapped self.old.blocks.size self.old.places.items self.old.active }
         requires other { self.old.active ≡ victim → ⊥ }
         requires hole { HasHole self.old.blocks.size victim self.old.places.items }
         ensures keeps { KeepsValues M.Nand (result ≡ VirtualWrite.Fault) self.old self.new media.old media.new }
         ensures moved { result ≡ VirtualWrite.Done → Vacates victim self.old self.new }
-        ensures given { (result ≡ VirtualWrite.Done → ⊥) → GivesBack self.old self.new }
+        ensures given { (result ≡ VirtualWrite.Done → ⊥) → GivesBackActive self.old self.new }
         ensures lost { LosesUntold M.tells self.old.places.items result }
     {
         let wear = self.blocks.wear(self.active);
@@ -262,7 +262,7 @@ impl State {
 
     /// Cleans the block with the most pages that no address has. One block is Free.
     fn clean<M: Nand>(&mut self, media: &mut M) -> VirtualWrite
-        requires stands { StandsOn M.Nand self.old media.old }
+        requires stands { IsStateOfMedium M.Nand self.old media.old }
         requires closed { (seen self.old).used ≡ self.old.blocks.size }
         requires free { free_count self.old.blocks ≡ 1 }
         ensures keeps { KeepsValues M.Nand (result ≡ VirtualWrite.Fault) self.old self.new media.old media.new }
@@ -288,9 +288,9 @@ impl State {
 
     /// Sees to it that a block is Free. Where none is, some block in use holds no page of the map.
     fn free_one<M: Nand>(&mut self, media: &mut M) -> WriteAnswer
-        requires stands { StandsOn M.Nand self.old media.old }
+        requires stands { IsStateOfMedium M.Nand self.old media.old }
         requires closed { (seen self.old).used ≡ self.old.blocks.size }
-        requires spare { HasSpare (seen self.old) }
+        requires spare { LayoutHasUnmapped (seen self.old) }
         ensures keeps { KeepsValues M.Nand (result ≡ WriteAnswer.Failed) self.old self.new media.old media.new }
         ensures places { self.new.places.items ≡ self.old.places.items }
         ensures closed { (seen self.new).used ≡ self.new.blocks.size }
@@ -307,10 +307,10 @@ impl State {
 
     /// Sees to it that the active block has a page that is not used, and another block is Free.
     pub fn make_room<M: Nand>(&mut self, media: &mut M) -> VirtualWrite
-        requires stands { StandsOn M.Nand self.old media.old }
-        requires spare { HasSpare (seen self.old) }
+        requires stands { IsStateOfMedium M.Nand self.old media.old }
+        requires spare { LayoutHasUnmapped (seen self.old) }
         ensures keeps { KeepsValues M.Nand (result ≡ VirtualWrite.Fault) self.old self.new media.old media.new }
-        ensures spare { HasSpare (seen self.new) }
+        ensures spare { LayoutHasUnmapped (seen self.new) }
         ensures room { result ≡ VirtualWrite.Done → ((seen self.new).used < self.new.blocks.size) × (1 ≤ free_count self.new.blocks) }
         ensures direct { 0 < room (seen self.old) → result ≡ VirtualWrite.Done
             → (room (seen self.new) ≡ room (seen self.old)) × (self.new.places.items ≡ self.old.places.items) }

@@ -3,7 +3,7 @@ ghost use Rattle.std.specs.Prelude.{◌≡◌, ◌<◌, IfOk, IsTrue, length, re
 ghost use Rattle.nl_field.specs.Numbers.{is_legal, shape_for};
 ghost use Rattle.nl_blocks.specs.Table.{new_table};
 ghost use Rattle.nl_vseg.specs.Layout.{IsLayout};
-ghost use Rattle.nl_vseg.specs.Seen.{seen, IsFormed};
+ghost use Rattle.nl_vseg.specs.Seen.{seen, IsVirtualFormed};
 
 use crate::place::{Place, no_places};
 use nl_blocks::Blocks;
@@ -42,7 +42,7 @@ impl State {
     pub fn new(alloc: Global, shape: &Shape) -> Result<State, Memory>
         requires legal { IsTrue (is_legal shape.now.blocks shape.now.pages) }
         requires numbers { shape.now ≡ shape_for shape.now.blocks shape.now.pages }
-        ensures formed { IfOk result IsFormed }
+        ensures formed { IfOk result IsVirtualFormed }
         ensures seen { IfOk result (λ s. seen s ≡ record {
           places = replicate shape.now.vaddrs None;
           table = new_table 0 shape.now.vblocks shape.now.pages;

@@ -2,8 +2,8 @@
 ghost use Rattle.std.specs.Prelude.{◌≡◌, ◌+◌, ◌*◌, ◌<◌, length, true, false};
 ghost use Rattle.nl_blocks.specs.Table.{block_at};
 ghost use Rattle.nl_vseg.specs.Layout.{wears_of};
-ghost use Rattle.nl_vseg.specs.Copying.{SameUse};
-ghost use Rattle.nl_vseg.specs.Used.{AreRising, UsesNext, is_open_state, used_of};
+ghost use Rattle.nl_vseg.specs.Copying.{SameFreeBlocks};
+ghost use Rattle.nl_vseg.specs.Used.{OpenBlocksAreRisen, UsesNext, is_open_state, used_of};
 
 use nl_blocks::{BlockState, Blocks};
 
@@ -38,11 +38,11 @@ pub fn has_room(blocks: &Blocks, block: u32) -> bool
 pub fn use_next(blocks: &mut Blocks, block: u32) -> u32
     requires first { blocks.old.first ≡ 0 }
     requires within { block < length blocks.old.blocks }
-    requires rising { AreRising blocks.old }
+    requires rising { OpenBlocksAreRisen blocks.old }
     requires room { used_of blocks.old block < blocks.old.size }
     ensures page { result ≡ block * blocks.old.size + used_of blocks.old block }
     ensures used { UsesNext block blocks.old blocks.new }
-    ensures states { SameUse blocks.old blocks.new }
+    ensures states { SameFreeBlocks blocks.old blocks.new }
     ensures wears { wears_of blocks.new ≡ wears_of blocks.old }
 {
     let _ = blocks.count();

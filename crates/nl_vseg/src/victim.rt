@@ -6,7 +6,7 @@ ghost use Rattle.nl_vseg.specs.declared.place.Place.{Place as PlaceOf};
 ghost use Rattle.nl_vseg.specs.Layout.{block_is_free, wears_of};
 ghost use Rattle.nl_victim.specs.Victims.{IsMostDead};
 ghost use Rattle.nl_vseg.specs.Used.{IsClosed, KeepsUsed, used_of};
-ghost use Rattle.nl_vseg.specs.Copying.{mapped_in, HasHole, IsMarked, IsSettled, SameStates, SameUse};
+ghost use Rattle.nl_vseg.specs.Copying.{mapped_in, HasHole, MarksPlace, IsSettled, SameStates, SameFreeBlocks};
 
 use crate::place::Place;
 use crate::used::has_room;
@@ -18,7 +18,7 @@ pub fn seal_used(blocks: &mut Blocks, block: u32)
     requires first { blocks.old.first ≡ 0 }
     requires within { block < length blocks.old.blocks }
     ensures used { IsClosed block blocks.old blocks.new }
-    ensures states { SameUse blocks.old blocks.new }
+    ensures states { SameFreeBlocks blocks.old blocks.new }
     ensures here { block_is_free blocks.new block ≡ false → is_sealed (block_at blocks.new block) ≡ true }
     ensures wear { (other : ℕ) → (block_at blocks.new other).wear ≡ (block_at blocks.old other).wear }
     ensures wears { wears_of blocks.new ≡ wears_of blocks.old }
@@ -36,7 +36,7 @@ pub fn seal_full(blocks: &mut Blocks, block: u32)
     requires within { block < length blocks.old.blocks }
     requires in_use { block_is_free blocks.old block ≡ false }
     ensures used { KeepsUsed blocks.old blocks.new }
-    ensures states { SameUse blocks.old blocks.new }
+    ensures states { SameFreeBlocks blocks.old blocks.new }
     ensures sealed { used_of blocks.new block ≡ blocks.new.size → is_sealed (block_at blocks.new block) ≡ true }
     ensures wear { (other : ℕ) → (block_at blocks.new other).wear ≡ (block_at blocks.old other).wear }
     ensures wears { wears_of blocks.new ≡ wears_of blocks.old }
@@ -50,7 +50,7 @@ pub fn seal_full(blocks: &mut Blocks, block: u32)
 /// Each block in use is Sealed: also the active one, which is left where no other block is Free.
 fn seal_all(blocks: &mut Blocks)
     requires { blocks.old.first ≡ 0 }
-    ensures states { SameUse blocks.old blocks.new }
+    ensures states { SameFreeBlocks blocks.old blocks.new }
     ensures wears { wears_of blocks.new ≡ wears_of blocks.old }
     ensures sealed { (block : ℕ) → block < length blocks.new.blocks → block_is_free blocks.new block ≡ false
         → is_sealed (block_at blocks.new block) ≡ true }
@@ -78,7 +78,7 @@ fn mark_place(blocks: &mut Blocks, place: Option<Place>)
     requires some { 0 < blocks.old.size }
     requires rows { (block : ℕ) → block < length blocks.old.blocks → length (block_at blocks.old block).pages ≡ blocks.old.size }
     requires below { IfSome place (λ p. p.page < length blocks.old.blocks * blocks.old.size) }
-    ensures { IsMarked place blocks.old blocks.new }
+    ensures { MarksPlace place blocks.old blocks.new }
 {
     let Some(place) = place else {
         return;
@@ -108,7 +108,7 @@ fn mark_live(blocks: &mut Blocks, places: &Vec<Option<Place>>)
 fn settle(blocks: &mut Blocks, places: &Vec<Option<Place>>)
     requires first { blocks.old.first ≡ 0 }
     requires below { AreBelow (length blocks.old.blocks * blocks.old.size) places.now.items }
-    ensures states { SameUse blocks.old blocks.new }
+    ensures states { SameFreeBlocks blocks.old blocks.new }
     ensures wears { wears_of blocks.new ≡ wears_of blocks.old }
     ensures settled { IsSettled places.now.items blocks.new }
 {
@@ -125,7 +125,7 @@ pub fn choose(blocks: &mut Blocks, places: &Vec<Option<Place>>) -> u32
     requires below { AreBelow (length blocks.old.blocks * blocks.old.size) places.now.items }
     requires few { length places.now.items + 4 * blocks.old.size ≤ length blocks.old.blocks * blocks.old.size }
     requires free { free_count blocks.old ≤ 1 }
-    ensures states { SameUse blocks.old blocks.new }
+    ensures states { SameFreeBlocks blocks.old blocks.new }
     ensures wears { wears_of blocks.new ≡ wears_of blocks.old }
     ensures settled { IsSettled places.now.items blocks.new }
     ensures most { IsMostDead blocks.new result }

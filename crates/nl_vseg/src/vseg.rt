@@ -2,12 +2,12 @@
 ghost use Rattle.std.specs.Prelude.{◌≡◌, ℕ, ◌+◌, ◌*◌, ◌/◌, ◌<◌, ◌≤◌, length, slice_set, replicate, true, None, Some, IsTrue, IfOk};
 ghost use Rattle.nl_field.specs.Numbers.{is_legal, shape_for};
 ghost use Rattle.nl_field.specs.Spelling.{is_stamp};
-ghost use Rattle.nl_nand.specs.Nand.{FaultsCounted, OnlyReads};
+ghost use Rattle.nl_nand.specs.Nand.{FaultsCounted, MediumOnlyRead};
 ghost use Rattle.nl_vseg.specs.Places.{map_of, place_of, stamp_for};
-ghost use Rattle.nl_vseg.specs.Segment.{Fits, IsSegmentOf, KeepsSpare, SameSize, is_blank, wear_of};
-ghost use Rattle.nl_vseg.specs.Answers.{ReadsStamp, ReadsValue};
+ghost use Rattle.nl_vseg.specs.Segment.{FitsSegment, IsSegmentOf, SegmentHasUnmapped, SameSize, is_taken_as_erased, wear_of};
+ghost use Rattle.nl_vseg.specs.Answers.{ReadsStampInto, ReadsValueInto};
 ghost use Rattle.nl_vseg.specs.Cleaning.{LosesUntold};
-ghost use Rattle.nl_vseg.specs.Writes.{StillServes, Writes, WritesDirectly};
+ghost use Rattle.nl_vseg.specs.Writes.{StillServes, WritesValueAt, WritesDirectly};
 
 use crate::state::State;
 use nl_field::{Memory, PageBuf, Shape, VirtualRead, VirtualWrite};
@@ -27,11 +27,11 @@ impl Model for VSeg {
 
     ghost Value = { Segment };
 
-    ghost use Rattle.nl_vseg.specs.Seen.{segment_of, IsFormed};
+    ghost use Rattle.nl_vseg.specs.Seen.{segment_of, IsVirtualFormed};
 
     ghost view = { λ s. segment_of s.state };
 
-    ghost invariant = { λ s. IsFormed s.state };
+    ghost invariant = { λ s. IsVirtualFormed s.state };
 }
 
 impl VSeg {
@@ -42,10 +42,10 @@ impl VSeg {
         ensures places { IfOk result (λ s. s.places ≡ replicate shape.now.vaddrs None) }
         ensures pages { IfOk result (λ s. s.pages ≡ shape.now.pages) }
         ensures bound { IfOk result (λ s. s.bound ≡ shape.now.vblocks * shape.now.pages) }
-        ensures erased { IfOk result (λ s. (p : ℕ) → p < s.bound → is_blank s p ≡ true) }
-        ensures within { IfOk result (λ s. (p : ℕ) → is_blank s p ≡ true → p < s.bound) }
+        ensures erased { IfOk result (λ s. (p : ℕ) → p < s.bound → is_taken_as_erased s p ≡ true) }
+        ensures within { IfOk result (λ s. (p : ℕ) → is_taken_as_erased s p ≡ true → p < s.bound) }
         ensures wear { IfOk result (λ s. (block : ℕ) → wear_of s block ≡ 0) }
-        ensures spare { IfOk result KeepsSpare }
+        ensures spare { IfOk result SegmentHasUnmapped }
         ensures room { IfOk result (λ s. s.room + shape.now.pages ≡ shape.now.vblocks * shape.now.pages) }
     {
         Ok(VSeg {
@@ -62,10 +62,10 @@ impl VSeg {
         requires stamp { IsTrue (is_stamp stamp) }
         ensures places { self.new.places ≡ slice_set self.old.places vaddr (Some (record { page = page; stamp = stamp })) }
         ensures numbers { SameSize self.old self.new }
-        ensures erased { (p : ℕ) → is_blank self.new p ≡ true
-            → (is_blank self.old p ≡ true) × (p / self.old.pages ≡ page / self.old.pages → ⊥) }
-        ensures still { (p : ℕ) → is_blank self.old p ≡ true → (p / self.old.pages ≡ page / self.old.pages → ⊥)
-            → is_blank self.new p ≡ true }
+        ensures erased { (p : ℕ) → is_taken_as_erased self.new p ≡ true
+            → (is_taken_as_erased self.old p ≡ true) × (p / self.old.pages ≡ page / self.old.pages → ⊥) }
+        ensures still { (p : ℕ) → is_taken_as_erased self.old p ≡ true → (p / self.old.pages ≡ page / self.old.pages → ⊥)
+            → is_taken_as_erased self.new p ≡ true }
         ensures wear { (block : ℕ) → wear_of self.new block ≡ wear_of self.old block }
     {
         self.state.load(page, vaddr, stamp);
@@ -79,8 +79,8 @@ impl VSeg {
         ensures numbers { SameSize self.old self.new }
         ensures wear { wear_of self.new block ≡ wear }
         ensures others { (other : ℕ) → (other ≡ block → ⊥) → wear_of self.new other ≡ wear_of self.old other }
-        ensures erased { (p : ℕ) → is_blank self.new p ≡ true → (is_blank self.old p ≡ true) × (p / self.old.pages ≡ block → ⊥) }
-        ensures still { (p : ℕ) → is_blank self.old p ≡ true → (p / self.old.pages ≡ block → ⊥) → is_blank self.new p ≡ true }
+        ensures erased { (p : ℕ) → is_taken_as_erased self.new p ≡ true → (is_taken_as_erased self.old p ≡ true) × (p / self.old.pages ≡ block → ⊥) }
+        ensures still { (p : ℕ) → is_taken_as_erased self.old p ≡ true → (p / self.old.pages ≡ block → ⊥) → is_taken_as_erased self.new p ≡ true }
     {
         self.state.soil(block, wear);
     }
@@ -93,13 +93,13 @@ impl VSeg {
         vaddr: u32,
         buf: &mut PageBuf,
     ) -> VirtualRead
-        requires fits { Fits (M.geometry media.old) self.old }
+        requires fits { FitsSegment (M.geometry media.old) self.old }
         requires vaddr { vaddr < length self.old.places }
         requires segment { M.tells → IsSegmentOf (M.contents media.old) self.old }
         ensures segment { self.new ≡ self.old }
-        ensures answer { ReadsStamp (stamp_for self.old.places vaddr) buf.new result }
-        ensures value { M.tells → ReadsValue (map_of self.old.places (M.contents media.old) vaddr) buf.new result }
-        ensures only_reads { OnlyReads M.geometry M.contents M.clock M.write_faults M.left media.old media.new }
+        ensures answer { ReadsStampInto (stamp_for self.old.places vaddr) buf.new result }
+        ensures value { M.tells → ReadsValueInto (map_of self.old.places (M.contents media.old) vaddr) buf.new result }
+        ensures only_reads { MediumOnlyRead M.geometry M.contents M.clock M.write_faults M.left media.old media.new }
         ensures read_faults { FaultsCounted (M.read_faults media.old) (M.read_faults media.new) (result ≡ VirtualRead.Fault) }
     {
         self.state.read(media, vaddr, buf)
@@ -114,13 +114,13 @@ impl VSeg {
         from: &PageBuf,
         stamp: u64,
     ) -> VirtualWrite
-        requires fits { Fits (M.geometry media.old) self.old }
+        requires fits { FitsSegment (M.geometry media.old) self.old }
         requires vaddr { vaddr < length self.old.places }
         requires stamp { IsTrue (is_stamp stamp) }
-        requires spare { KeepsSpare self.old }
+        requires spare { SegmentHasUnmapped self.old }
         requires segment { M.tells → IsSegmentOf (M.contents media.old) self.old }
         ensures serves { StillServes M.Nand self.old self.new media.new }
-        ensures writes { Writes M.Nand vaddr stamp from.now.main (result ≡ VirtualWrite.Done)
+        ensures writes { WritesValueAt M.Nand vaddr stamp from.now.main (result ≡ VirtualWrite.Done)
             (result ≡ VirtualWrite.Fault) self.old self.new media.old media.new }
         ensures direct { 0 < self.old.room → result ≡ VirtualWrite.Done
             → WritesDirectly M.Nand vaddr stamp from.now.main self.old self.new media.old media.new }

@@ -3,11 +3,11 @@ ghost use Rattle.std.specs.Prelude.{◌≡◌, ◌<◌, ◌≤◌, length, true,
 ghost use Rattle.nl_field.specs.Spelling.{is_stamp};
 ghost use Rattle.nl_blocks.specs.Table.{block_at, free_count, is_sealed};
 ghost use Rattle.nl_vseg.specs.Layout.{room};
-ghost use Rattle.nl_vseg.specs.Segment.{Fits, IsSegmentOf, KeepsSpare};
-ghost use Rattle.nl_vseg.specs.Seen.{seen, segment_of, IsFormed};
-ghost use Rattle.nl_vseg.specs.Cleaning.{LosesUntold, StandsOn};
-ghost use Rattle.nl_vseg.specs.Putting.{Puts};
-ghost use Rattle.nl_vseg.specs.Writes.{StillServes, Writes, WritesDirectly};
+ghost use Rattle.nl_vseg.specs.Segment.{FitsSegment, IsSegmentOf, SegmentHasUnmapped};
+ghost use Rattle.nl_vseg.specs.Seen.{seen, segment_of, IsVirtualFormed};
+ghost use Rattle.nl_vseg.specs.Cleaning.{LosesUntold, IsStateOfMedium};
+ghost use Rattle.nl_vseg.specs.Putting.{PutsAtAddress};
+ghost use Rattle.nl_vseg.specs.Writes.{StillServes, WritesValueAt, WritesDirectly};
 
 use crate::pages::program_page;
 use crate::place::Place;
@@ -26,12 +26,12 @@ impl State {
         from: &PageBuf,
         stamp: u64,
     ) -> WriteAnswer
-        requires stands { StandsOn M.Nand self.old media.old }
+        requires stands { IsStateOfMedium M.Nand self.old media.old }
         requires vaddr { vaddr < length self.old.places.items }
         requires stamp { IsTrue (is_stamp stamp) }
         requires room { (seen self.old).used < self.old.blocks.size }
         requires free { 1 ≤ free_count self.old.blocks }
-        ensures puts { Puts M.Nand vaddr stamp from.now.main result self.old self.new media.old media.new }
+        ensures puts { PutsAtAddress M.Nand vaddr stamp from.now.main result self.old self.new media.old media.new }
     {
         let wear = self.blocks.wear(self.active);
         let page = use_next(&mut self.blocks, self.active);
@@ -47,12 +47,12 @@ impl State {
 
     /// Programs the next page of the active block as that of an address. The block is Sealed once it is full.
     fn put<M: Nand>(&mut self, media: &mut M, vaddr: u32, from: &PageBuf, stamp: u64) -> WriteAnswer
-        requires stands { StandsOn M.Nand self.old media.old }
+        requires stands { IsStateOfMedium M.Nand self.old media.old }
         requires vaddr { vaddr < length self.old.places.items }
         requires stamp { IsTrue (is_stamp stamp) }
         requires room { (seen self.old).used < self.old.blocks.size }
         requires free { 1 ≤ free_count self.old.blocks }
-        ensures puts { Puts M.Nand vaddr stamp from.now.main result self.old self.new media.old media.new }
+        ensures puts { PutsAtAddress M.Nand vaddr stamp from.now.main result self.old self.new media.old media.new }
         ensures sealed { (seen self.new).used ≡ self.new.blocks.size → is_sealed (block_at self.new.blocks self.new.active) ≡ true }
     {
         let answer = self.program(media, vaddr, from, stamp);
@@ -68,15 +68,15 @@ impl State {
         from: &PageBuf,
         stamp: u64,
     ) -> VirtualWrite
-        requires formed { IsFormed self.old }
-        requires fits { Fits (M.geometry media.old) (segment_of self.old) }
+        requires formed { IsVirtualFormed self.old }
+        requires fits { FitsSegment (M.geometry media.old) (segment_of self.old) }
         requires vaddr { vaddr < length self.old.places.items }
         requires stamp { IsTrue (is_stamp stamp) }
-        requires spare { KeepsSpare (segment_of self.old) }
+        requires spare { SegmentHasUnmapped (segment_of self.old) }
         requires segment { M.tells → IsSegmentOf (M.contents media.old) (segment_of self.old) }
-        ensures formed { IsFormed self.new }
+        ensures formed { IsVirtualFormed self.new }
         ensures serves { StillServes M.Nand (segment_of self.old) (segment_of self.new) media.new }
-        ensures writes { Writes M.Nand vaddr stamp from.now.main (result ≡ VirtualWrite.Done) (result ≡ VirtualWrite.Fault)
+        ensures writes { WritesValueAt M.Nand vaddr stamp from.now.main (result ≡ VirtualWrite.Done) (result ≡ VirtualWrite.Fault)
             (segment_of self.old) (segment_of self.new) media.old media.new }
         ensures direct { 0 < room (seen self.old) → result ≡ VirtualWrite.Done
             → WritesDirectly M.Nand vaddr stamp from.now.main (segment_of self.old) (segment_of self.new) media.old media.new }

@@ -7,11 +7,11 @@ use Rattle.std.specs.Prelude.{slice_get, Contains, count_by}
 use mathlib.Core.List.{IsPrefix}
 use Rattle.nl_tree.specs.declared.call.Line.{Line}
 use Rattle.nl_turns.specs.History.{losses}
-use Rattle.nl_turns.specs.Seat.{Passed, SeatState, by_seat, entries, longer, NoneBeyond}
+use Rattle.nl_turns.specs.Seat.{Passed, SeatState, by_seat, entries, longer, NoNumberBeyond}
 use Rattle.nl_turns.proofs.Histories.{prefix_trans}
 use Rattle.nl_workers.specs.Placed.{EachPlaced, KnowsLosses, entries_of, effects_of, losses_by}
 use Rattle.nl_workers.specs.Worked.{AreLinesOf, IsStation, MayWork, HasWorked, AreDone, lines_between, lines_of}
-use Rattle.nl_workers.specs.Crew.{MayStart, HasRun, any_lost, counted_from, effects_from, losses_from, lines_below}
+use Rattle.nl_workers.specs.Crew.{MayStart, CrewHasRun, any_lost, counted_from, effects_from, losses_from, lines_below}
 use Rattle.nl_turns.specs.declared.entry.Entry.{Entry}
 use Rattle.nl_workers.specs.declared.station.Station.{Station}
 use Rattle.nl_workers.proofs.Losing.{knows_self, knows_trans, knows_beside, first_knows, second_knows, stations_know, any_push}
@@ -92,7 +92,7 @@ effects_stay m first count old all same = counted_stay (λ (e : Entry). e.line =
 -- ---- no worker
 
 pub none_ran : (tells : Type 0) (lines : List Line) (from to : ℕ) (seat : SeatState) (stations : List Station) → stations ≡ [] → MayStart tells lines from to seat stations
-    → HasRun tells lines from to seat stations seat stations
+    → CrewHasRun tells lines from to seat stations seat stations
 none_ran tells lines from to seat stations none may = record {
   count = 0;
   same = let e : seat.next ≡ seat.next + 0 = omega arith in λ i. record seat { next = e i };
@@ -160,7 +160,7 @@ module _ (tells : Type 0) (lines : List Line) (from to worker : ℕ) (seat : Sea
               (subst (λ o. IsStation tells o lines w from seat.seen s) (sym opening1) (may.stations_are w s (get_front more station s w e)));
         }
 
-    module _ (seat2 : SeatState) (more' : List Station) (ran : HasRun tells lines from to seat1 more seat2 more') where
+    module _ (seat2 : SeatState) (more' : List Station) (ran : CrewHasRun tells lines from to seat1 more seat2 more') where
       stations_now : (w : ℕ) (s : Station) → slice_get (more' ++ station' ∷ []) w ≡ Some s → IsStation tells seat.opening lines w to seat2.seen s
       stations_now w s e = go (get_either more' station' s w e)
         where
@@ -171,12 +171,12 @@ module _ (tells : Type 0) (lines : List Line) (from to worker : ℕ) (seat : Sea
               subst (λ (z : ℕ × Station). IsStation tells seat.opening lines z.0 to seat2.seen z.1) (λ i. (at i, new.1 i))
               (station_grows tells seat.opening lines worker to seat1.seen seat2.seen station' ran.grows worked.station_is)
 
-      pub own_ran : HasRun tells lines from to seat (more ++ station ∷ []) seat2 (more' ++ station' ∷ [])
+      pub own_ran : CrewHasRun tells lines from to seat (more ++ station ∷ []) seat2 (more' ++ station' ∷ [])
       own_ran = record {
         count = ran.count;
         same = ran.same ∙ (λ i. record (worked.goes.same i) { seen = seat2.seen; next = next1 i + ran.count; joined = seat2.joined });
         grows = prefix_trans seat.seen seat1.seen seat2.seen worked.goes.grows ran.grows;
-        numbers = λ h. ran.numbers (subst (λ n. NoneBeyond n seat1.seen) (sym next1) (worked.goes.numbers may.first h));
+        numbers = λ h. ran.numbers (subst (λ n. NoNumberBeyond n seat1.seen) (sym next1) (worked.goes.numbers may.first h));
         joined = λ n h.
             let here : Contains seat1.joined n = subst (λ (z : SeatState). Contains z.joined n) (sym worked.goes.same) h in
             let q = ran.joined n here in
@@ -205,7 +205,7 @@ module _ (tells : Type 0) (lines : List Line) (from to worker : ℕ) (seat : Sea
   none_placed n history none before entry after is = absurd (has_own n before after entry (ap (by_seat n) is ∙ none))
 
   module _ (own left : SeatState) (new : own ≡ record seat { number = seat.next; places = 0; next = 0; joined = [] }) (split : left ≡ record seat { places = seat.places - 1; next = seat.next + 1 })
-      (unused : NoneBeyond own.number own.seen) where
+      (unused : NoNumberBeyond own.number own.seen) where
     own_number : own.number ≡ seat.next
     own_number = ap (λ (z : SeatState). z.number) new
 
@@ -247,13 +247,13 @@ module _ (tells : Type 0) (lines : List Line) (from to worker : ℕ) (seat : Sea
         }
 
     module _ (own' s2 s3 : SeatState) (station' : Station) (more' : List Station) (places : 0 < seat.places)
-        (worked : HasWorked tells lines worker from to own station own' station') (ran : HasRun tells lines from to left more s2 more')
+        (worked : HasWorked tells lines worker from to own station own' station') (ran : CrewHasRun tells lines from to left more s2 more')
         (joined : s3 ≡ record s2 { seen = longer s2.seen own'.seen; places = s2.places + 1; joined = own'.number ∷ s2.joined })
         (grows : IsPrefix s2.seen s3.seen × IsPrefix own'.seen s3.seen)
         (kept : by_seat 0 s3.seen ≡ by_seat 0 s2.seen)
         (theirs : by_seat own'.number s3.seen ≡ by_seat own'.number own'.seen)
         (before : (n : ℕ) → Contains s2.joined n → by_seat n s3.seen ≡ by_seat n s2.seen)
-        (numbers : NoneBeyond s3.next s3.seen) where
+        (numbers : NoNumberBeyond s3.next s3.seen) where
       joined_is : s3.joined ≡ own'.number ∷ s2.joined
       joined_is = ap (λ (z : SeatState). z.joined) joined
 
@@ -349,7 +349,7 @@ module _ (tells : Type 0) (lines : List Line) (from to worker : ℕ) (seat : Sea
               subst (λ (z : ℕ × Station). IsStation tells seat.opening lines z.0 to s3.seen z.1) (λ i. (at i, new.1 i))
               (station_grows tells seat.opening lines worker to own'.seen s3.seen station' grows.1 (subst (λ o. IsStation tells o lines worker to own'.seen station') own_opening worked.station_is))
 
-      pub thread_ran : HasRun tells lines from to seat (more ++ station ∷ []) s3 (more' ++ station' ∷ [])
+      pub thread_ran : CrewHasRun tells lines from to seat (more ++ station ∷ []) s3 (more' ++ station' ∷ [])
       thread_ran = record {
         count = suc ran.count;
         same = same_is;

@@ -6,13 +6,13 @@ use Rattle.nl_callbacks.specs.declared.notices.Notices.{Notices}
 use Rattle.nl_tree.specs.Calls.{AreLines}
 use Rattle.nl_tree.specs.declared.call.Line.{Line}
 use Rattle.nl_turns.specs.Seat.{Passed, SeatState, by_seat, entries}
-use Rattle.nl_workers.specs.Placed.{EachPlaced, IsPlaced, KnowsLosses, entries_of, effects_of, losses_by}
+use Rattle.nl_workers.specs.Placed.{EachPlaced, EntryIsPlaced, KnowsLosses, entries_of, effects_of, losses_by}
 use Rattle.nl_workers.specs.Duties.{MayClean, MayHandle}
 use Rattle.nl_workers.specs.Fresh.{AreFresh}
 use Rattle.nl_workers.specs.Worked.{IsStation}
 use Rattle.nl_workers.specs.Crew.{any_lost, effects_from, losses_from}
 use Rattle.nl_workers.specs.Rounds.{IsFirstSeat, AllPlaced}
-use Rattle.nl_workers.specs.Going.{IsDutySeat, IsGoing, MayGo, IsHome, HasRunAll, times_in}
+use Rattle.nl_workers.specs.Going.{IsTaskSeat, IsUnderWay, MayGo, TookSeatsBack, HasRunAll, times_in}
 use Rattle.nl_workers.specs.declared.crew.Crew.{Crew}
 use Rattle.nl_workers.specs.declared.station.Station.{Station}
 use Rattle.nl_turns.specs.History.{losses, has_lost_page}
@@ -52,7 +52,7 @@ module _ (tells : Type 0) (lock : TableId) (notices : Notices) (lines : List Lin
     lines_are = record { are = are; has = ap (λ o. o.lines) opening2 ∙ is_first.lines_are };
   }
 
-  duty_seat : (n : ℕ) (s : SeatState) → s.number ≡ n → s.seen ≡ [] → IsDutySeat lines n s
+  duty_seat : (n : ℕ) (s : SeatState) → s.number ≡ n → s.seen ≡ [] → IsTaskSeat lines n s
   duty_seat n s number none = record {
     number_is = number;
     placed = none_placed lines n s.seen (ap (by_seat n) none);
@@ -82,7 +82,7 @@ module _ (tells : Type 0) (lock : TableId) (notices : Notices) (lines : List Lin
           none_lost = λ t. f.not_lost;
         }
 
-    pub sets_out : IsGoing tells lock notices lines crew.seat 0 crew
+    pub sets_out : IsUnderWay tells lock notices lines crew.seat 0 crew
     sets_out = record {
       same = refl;
       below = omega arith;
@@ -120,7 +120,7 @@ module _ (tells : Type 0) (lock : TableId) (notices : Notices) (lines : List Lin
 
     -- ---- the last
 
-    module _ (end : Crew) (after : SeatState) (w : IsGoing tells lock notices lines crew.seat (length lines) end) (home : IsHome end.seat end.cleaner.seat end.handler.seat after) where
+    module _ (end : Crew) (after : SeatState) (w : IsUnderWay tells lock notices lines crew.seat (length lines) end) (home : TookSeatsBack end.seat end.cleaner.seat end.handler.seat after) where
       next_is : after.next ≡ end.seat.next
       next_is = ap (λ (z : SeatState). z.next) home.same
 
@@ -148,7 +148,7 @@ module _ (tells : Type 0) (lock : TableId) (notices : Notices) (lines : List Lin
       all_placed : AllPlaced lines after.seen
       all_placed before p rest is = go (below_or p.seat after.next)
         where
-          go : (p.seat < after.next) ⊎ (after.next ≤ p.seat) → IsPlaced lines p.seat before p.entry
+          go : (p.seat < after.next) ⊎ (after.next ≤ p.seat) → EntryIsPlaced lines p.seat before p.entry
           go (inl h) = each_placed p.seat h before p.entry rest is
           go (inr h) = absurd (has_own p.seat before rest p.entry (ap (by_seat p.seat) is ∙ home.numbers p.seat h))
 

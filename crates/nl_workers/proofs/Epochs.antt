@@ -8,7 +8,7 @@ use Rattle.nl_tree.specs.declared.call.Line.{Line}
 use Rattle.nl_turns.specs.History.{Opening, line_at}
 use Rattle.nl_turns.specs.Seat.{Passed}
 use Rattle.nl_turns.proofs.Lines.{get_at, line_found}
-use Rattle.nl_workers.specs.Placed.{HasLine, HasEffect, MayRun}
+use Rattle.nl_workers.specs.Placed.{HasLine, LineTookEffect, LineMayRun}
 use Rattle.nl_workers.specs.Worked.{AreLinesOf, IsEpoch}
 
 -- all lines from one position up to another are of this epoch
@@ -154,9 +154,9 @@ has_line opening lines i line all e =
 
 -- a line may run where each line is done that stands before it, below the epoch or of the same worker
 pub may_run : (lines : List Line) (from to at : ℕ) (line : Line) (history : List Passed) → AreLines lines → IsEpoch lines from to → from ≤ at → at < to → slice_get lines at ≡ Some line
-    → ((i : ℕ) (earlier : Line) → i < at → (i < from) ⊎ (earlier.worker ≡ line.worker) → slice_get lines i ≡ Some earlier → HasEffect earlier.line history) → MayRun lines line.line history
+    → ((i : ℕ) (earlier : Line) → i < at → (i < from) ⊎ (earlier.worker ≡ line.worker) → slice_get lines i ≡ Some earlier → LineTookEffect earlier.line history) → LineMayRun lines line.line history
 may_run lines from to at line history are epoch low high is done =
-    subst (λ o. IfSome o (λ l. (earlier : Line) → Contains lines earlier → IsTrue (has_to_precede earlier l) → HasEffect earlier.line history)) (sym (found_at lines at line are is))
+    subst (λ o. IfSome o (λ l. (earlier : Line) → Contains lines earlier → IsTrue (has_to_precede earlier l) → LineTookEffect earlier.line history)) (sym (found_at lines at line are is))
     (λ earlier c t.
     let s = stands_at lines earlier c in
     let p = precedes lines from to at s.0 line earlier are epoch low high is s.1 t in

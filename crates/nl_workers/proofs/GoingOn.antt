@@ -3,14 +3,14 @@ use Rattle.std.proofs.Common.{◌≡◌, [], ◌∷◌, ◌++◌, refl, sym, ap,
 use Rattle.std.proofs.lemmas.List.{append-nil}
 use Rattle.std.specs.Prelude.{Contains}
 use Rattle.nl_turns.proofs.Histories.{prefix_trans}
-use Rattle.nl_turns.specs.Seat.{SeatState, passed_by, NoneBeyond}
+use Rattle.nl_turns.specs.Seat.{SeatState, passed_by, NoNumberBeyond}
 use Rattle.nl_turns.specs.declared.entry.Entry.{Entry}
-use Rattle.nl_workers.specs.Placed.{HasPassed, GoesOn}
+use Rattle.nl_workers.specs.Placed.{HasPassed, SeatAdvances}
 
-pub goes_self : (seat : SeatState) → GoesOn seat seat
+pub goes_self : (seat : SeatState) → SeatAdvances seat seat
 goes_self seat = record { same = refl; grows = ([], append-nil seat.seen); joined = λ n h. refl; numbers = λ z h. h }
 
-pub goes_trans : (a b c : SeatState) → GoesOn a b → GoesOn b c → GoesOn a c
+pub goes_trans : (a b c : SeatState) → SeatAdvances a b → SeatAdvances b c → SeatAdvances a c
 goes_trans a b c p q = record {
   same = q.same ∙ (λ i. record (p.same i) { seen = c.seen });
   grows = prefix_trans a.seen b.seen c.seen p.grows q.grows;
@@ -18,14 +18,14 @@ goes_trans a b c p q = record {
   numbers = λ z h.
       let zero : b.number ≡ 0 = ap (λ (y : SeatState). y.number) p.same ∙ z in
       let next : b.next ≡ a.next = ap (λ (y : SeatState). y.next) p.same in
-      let mid : NoneBeyond b.next b.seen = subst (λ n. NoneBeyond n b.seen) (sym next) (p.numbers z h) in
-      subst (λ n. NoneBeyond n c.seen) next (q.numbers zero mid);
+      let mid : NoNumberBeyond b.next b.seen = subst (λ n. NoNumberBeyond n b.seen) (sym next) (p.numbers z h) in
+      subst (λ n. NoNumberBeyond n c.seen) next (q.numbers zero mid);
 }
 
 pub passed_seen : (s s' : SeatState) (e : Entry) (p : HasPassed s e s') → s'.seen ≡ p.mid ++ passed_by s.number e ∷ []
 passed_seen s s' e p = ap (λ (z : SeatState). z.seen) p.same
 
-pub passed_goes : (s s' : SeatState) (e : Entry) → HasPassed s e s' → GoesOn s s'
+pub passed_goes : (s s' : SeatState) (e : Entry) → HasPassed s e s' → SeatAdvances s s'
 passed_goes s s' e p =
     let seen_is = passed_seen s s' e p in
     record {

@@ -2,9 +2,9 @@
 use Rattle.std.proofs.Common.{◌≡◌, ℕ, suc, ◌+◌, List, ◌∷◌, refl, sym, ap, ◌∙◌, subst, arith}
 use Rattle.std.specs.Prelude.{Contains}
 use mathlib.Core.List.{IsPrefix}
-use Rattle.nl_turns.specs.Seat.{SeatState, by_seat, longer, NoneBeyond}
+use Rattle.nl_turns.specs.Seat.{SeatState, by_seat, longer, NoNumberBeyond}
 use Rattle.nl_turns.proofs.Histories.{prefix_trans}
-use Rattle.nl_workers.specs.Going.{IsHome}
+use Rattle.nl_workers.specs.Going.{TookSeatsBack}
 
 contains_cons : (n m : ℕ) (ms : List ℕ) → Contains ms n → Contains (m ∷ ms) n
 contains_cons n m ms h = (suc h.0, let below = h.1 in omega arith, h.2)
@@ -17,7 +17,7 @@ pub both_home : (seat first second s1 after : SeatState)
     → by_seat 0 s1.seen ≡ by_seat 0 seat.seen → by_seat first.number s1.seen ≡ by_seat first.number first.seen → ((n : ℕ) → Contains seat.joined n → by_seat n s1.seen ≡ by_seat n seat.seen)
     → after ≡ record s1 { seen = longer s1.seen second.seen; places = s1.places + 1; joined = second.number ∷ s1.joined } → IsPrefix s1.seen after.seen × IsPrefix second.seen after.seen
     → by_seat 0 after.seen ≡ by_seat 0 s1.seen → by_seat second.number after.seen ≡ by_seat second.number second.seen → ((n : ℕ) → Contains s1.joined n → by_seat n after.seen ≡ by_seat n s1.seen)
-    → NoneBeyond after.next after.seen → IsHome seat first second after
+    → NoNumberBeyond after.next after.seen → TookSeatsBack seat first second after
 both_home seat first second s1 after seat1 grows1 own1 theirs1 joined1 seat2 grows2 own2 theirs2 joined2 numbers2 =
     let joins : s1.joined ≡ first.number ∷ seat.joined = ap (λ (z : SeatState). z.joined) seat1 in
     let a : after.lock ≡ seat.lock = ap (λ (z : SeatState). z.lock) seat2 ∙ ap (λ (z : SeatState). z.lock) seat1 in

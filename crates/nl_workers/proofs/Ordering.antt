@@ -19,11 +19,11 @@ use Rattle.nl_turns.specs.Seat.{Passed, SeatState, entries, passed_by}
 use Rattle.nl_turns.specs.Served.{effect_entry, outcome_due}
 use Rattle.nl_turns.specs.declared.entry.Entry.{Entry}
 use Rattle.nl_turns.proofs.Lines.{get_at}
-use Rattle.nl_workers.specs.Placed.{HasEffect, MayRun, EndsStaged, effects_of}
+use Rattle.nl_workers.specs.Placed.{LineTookEffect, LineMayRun, EndsStaged, effects_of}
 use Rattle.nl_workers.specs.Table.{Row}
 use Rattle.nl_workers.specs.Worked.{IsAnswer}
 use Rattle.nl_workers.specs.Going.{HasRunAll, times_in}
-use Rattle.nl_workers.specs.Rounds.{answered_lines, IsRowAt, RoundsRan}
+use Rattle.nl_workers.specs.Rounds.{answered_lines, IsRowAt, EpochsRan}
 use Rattle.nl_workers.specs.Spots.{row_in, row_at, row_or, rows_at, AreSpots, OrdinalsFit, IsSpotted, AreSpotted}
 use Rattle.nl_workers.specs.declared.placing.Spot.{Spot}
 use Rattle.nl_workers.specs.declared.station.Station.{Station}
@@ -223,10 +223,10 @@ module _ (tells : Type 0) (lines : List Line) (seat after : SeatState) (stations
       let staged : f.one.entry.staged ≡ s.entry.entry.line = ap (λ (e : Entry). e.staged) f.entry_is ∙ ends.line_is in
       let whole : f.before ++ f.one ∷ (f.after ++ s.entry ∷ s.after) ≡ after.seen = sym (append_assoc f.before (f.one ∷ f.after) (s.entry ∷ s.after)) ∙ (ap (λ z. z ++ s.entry ∷ s.after) f.split ∙ s.split) in
       let p = s.some in
-      let may : MayRun lines f.one.entry.staged f.before = (w.placed f.before f.one (f.after ++ s.entry ∷ s.after) whole).staged (omega arith) in
+      let may : LineMayRun lines f.one.entry.staged f.before = (w.placed f.before f.one (f.after ++ s.entry ∷ s.after) whole).staged (omega arith) in
       let here : line_at lines f.one.entry.staged ≡ Some a = ap (line_at lines) staged ∙ s.found in
-      let runs : (earlier : Line) → Contains lines earlier → IsTrue (has_to_precede earlier a) → HasEffect earlier.line f.before =
-      subst (λ o. IfSome o (λ line. (earlier : Line) → Contains lines earlier → IsTrue (has_to_precede earlier line) → HasEffect earlier.line f.before)) here may in
+      let runs : (earlier : Line) → Contains lines earlier → IsTrue (has_to_precede earlier a) → LineTookEffect earlier.line f.before =
+      subst (λ o. IfSome o (λ line. (earlier : Line) → Contains lines earlier → IsTrue (has_to_precede earlier line) → LineTookEffect earlier.line f.before)) here may in
       let b_found : line_at lines b.line ≡ Some b = ap (line_at lines) number_b.0 ∙ t.found in
       let e = runs b (contains_line b b_found) prec in
       let all : e.before ++ e.entry ∷ (e.after ++ f.one ∷ (f.after ++ s.entry ∷ s.after)) ≡ after.seen = sym (append_assoc e.before (e.entry ∷ e.after) (f.one ∷ (f.after ++ s.entry ∷ s.after))) ∙ (ap (λ z. z ++ f.one ∷ (f.after ++ s.entry ∷ s.after)) e.split ∙ whole) in
@@ -407,7 +407,7 @@ module _ (tells : Type 0) (lines : List Line) (seat after : SeatState) (stations
         subst (λ z. IfSome (slice_get (filter is_effect es) i) (λ x. IsRowAt tells seat.opening es i x z)) same
         (row_at_is i r.0 r.2 (is_row r.0 (row_answer g.0.worker g.0.at f.0 r.0 f.1 f.2)))
 
-    pub rounds_ran : RoundsRan tells seat lines (rows_at stations spots) after
+    pub rounds_ran : EpochsRan tells seat lines (rows_at stations spots) after
     rounds_ran = record {
       same = w.same;
       order = record { each_once = once_each; in_order = in_order };

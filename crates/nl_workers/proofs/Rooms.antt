@@ -13,8 +13,8 @@ use Rattle.nl_callbacks.specs.declared.notices.Notices.{Notices}
 use Rattle.nl_workers.specs.Duties.{IsOutbox}
 use Rattle.nl_workers.specs.Kit.{IsKit}
 use Rattle.nl_workers.specs.declared.kit.Passes.{Passes}
-use Rattle.nl_workers.specs.Fresh.{IsFresh, AreFresh}
-use Rattle.nl_workers.specs.Table.{DeskState, HasRoom, TableState, IsTableFor, lines_to_come, bytes_to_come, bytes_for}
+use Rattle.nl_workers.specs.Fresh.{IsFreshStation, AreFresh}
+use Rattle.nl_workers.specs.Table.{DeskState, DeskHasRoom, TableState, IsTableFor, lines_to_come, bytes_to_come, read_bytes_of_line}
 use Rattle.nl_workers.specs.Placed.{one_if}
 use Rattle.nl_workers.specs.Spots.{desks_of, losses_of}
 use Rattle.nl_workers.specs.declared.station.Station.{Station}
@@ -39,10 +39,10 @@ pub bounded_few : (call : Call) → IsBounded call → read_length call ≤ 6553
 bounded_few call b = few_bytes call b.bytes
 
 pub room_more : (worker at : ℕ) (lines : List Line) (line : Line) → slice_get lines at ≡ Some line
-    → (lines_to_come worker (take (at + 1) lines) ≡ lines_to_come worker (take at lines) + one_if (line.worker == worker)) × (bytes_to_come worker (take (at + 1) lines) ≡ bytes_to_come worker (take at lines) + bytes_for worker line)
+    → (lines_to_come worker (take (at + 1) lines) ≡ lines_to_come worker (take at lines) + one_if (line.worker == worker)) × (bytes_to_come worker (take (at + 1) lines) ≡ bytes_to_come worker (take at lines) + read_bytes_of_line worker line)
 room_more worker at lines line e = (
   ap (lines_to_come worker) (take_snoc lines at line e) ∙ sum_by_push (λ (l : Line). cond (l.worker == worker) 1 0) (take at lines) line,
-  ap (bytes_to_come worker) (take_snoc lines at line e) ∙ sum_by_push (bytes_for worker) (take at lines) line,
+  ap (bytes_to_come worker) (take_snoc lines at line e) ∙ sum_by_push (read_bytes_of_line worker) (take at lines) line,
 )
 
 fresh_either : (xs : List Station) (x y : Station) (i : ℕ) (P : ℕ → Station → Type 0) → ((w : ℕ) (s : Station) → slice_get xs w ≡ Some s → P w s) → P (length xs) x → slice_get (xs ++ x ∷ []) i ≡ Some y → P i y
@@ -52,11 +52,11 @@ fresh_either (z ∷ xs) x y zero P h p e = h 0 y e
 fresh_either (z ∷ xs) x y (suc i) P h p e = fresh_either xs x y i (λ w s. P (suc w) s) (λ w s f. h (suc w) s f) p e
 
 -- one station more is fresh
-pub fresh_more : (lines : List Line) (xs ys : List Station) (x : Station) (worker : ℕ) → length xs ≡ worker → ys ≡ xs ++ x ∷ [] → ((w : ℕ) (s : Station) → slice_get xs w ≡ Some s → IsFresh lines w s) → IsFresh lines worker x
-    → (w : ℕ) (s : Station) → slice_get ys w ≡ Some s → IsFresh lines w s
-fresh_more lines xs ys x worker count push each new w s e = fresh_either xs x s w (IsFresh lines) each (subst (λ n. IsFresh lines n x) (sym count) new) (ap (λ zs. slice_get zs w) (sym push) ∙ e)
+pub fresh_more : (lines : List Line) (xs ys : List Station) (x : Station) (worker : ℕ) → length xs ≡ worker → ys ≡ xs ++ x ∷ [] → ((w : ℕ) (s : Station) → slice_get xs w ≡ Some s → IsFreshStation lines w s) → IsFreshStation lines worker x
+    → (w : ℕ) (s : Station) → slice_get ys w ≡ Some s → IsFreshStation lines w s
+fresh_more lines xs ys x worker count push each new w s e = fresh_either xs x s w (IsFreshStation lines) each (subst (λ n. IsFreshStation lines n x) (sym count) new) (ap (λ zs. slice_get zs w) (sym push) ∙ e)
 
-pub none_fresh : (lines : List Line) (xs : List Station) → xs ≡ [] → (w : ℕ) (s : Station) → slice_get xs w ≡ Some s → IsFresh lines w s
+pub none_fresh : (lines : List Line) (xs : List Station) → xs ≡ [] → (w : ℕ) (s : Station) → slice_get xs w ≡ Some s → IsFreshStation lines w s
 none_fresh lines xs none w s e = let h : slice_get [] w ≡ Some s = ap (λ zs. slice_get zs w) (sym none) ∙ e in absurd (cc h)
 
 -- ---- a table for lines
@@ -78,7 +78,7 @@ table_for lines stations table fresh rows lost desks losses places = record {
   not_lost = lost;
   workers = ap length desks ∙ (length-map stations (λ (s : Station). s.desk) ∙ fresh.size);
   places = places;
-  desks = λ w. subst (λ (ds : List DeskState). IfSome (slice_get ds w) (λ d. HasRoom w lines d)) (sym desks) (each_desk stations (λ n d. HasRoom n lines d) (λ n s e. (fresh.each n s e).room) w);
+  desks = λ w. subst (λ (ds : List DeskState). IfSome (slice_get ds w) (λ d. DeskHasRoom w lines d)) (sym desks) (each_desk stations (λ n d. DeskHasRoom n lines d) (λ n s e. (fresh.each n s e).room) w);
   none_lost = λ w. subst (λ (bs : List Bool). IfSome (slice_get bs w) (λ b. b ≡ false)) (sym losses) (each_loss stations (λ n s e. (fresh.each n s e).not_lost) w);
   blank = λ w. subst (λ (ds : List DeskState). IfSome (slice_get ds w) (λ d. d.rows ≡ [])) (sym desks) (each_desk stations (λ n d. d.rows ≡ []) (λ n s e. (fresh.each n s e).no_rows) w);
 }
@@ -100,7 +100,7 @@ fresh_from lines stations table t desks losses = record {
       let d : slice_get table.desks w ≡ Some s.desk = ap (λ (ds : List DeskState). slice_get ds w) desks ∙ desk_at stations w s e in
       let b : slice_get table.lost_by w ≡ Some s.lost = ap (λ (bs : List Bool). slice_get bs w) losses ∙ loss_at stations w s e in
       record {
-        room = subst (λ o. IfSome o (λ x. HasRoom w lines x)) d (t.desks w);
+        room = subst (λ o. IfSome o (λ x. DeskHasRoom w lines x)) d (t.desks w);
         no_rows = subst (λ o. IfSome o (λ (x : DeskState). x.rows ≡ [])) d (t.blank w);
         not_lost = subst (λ (o : Option Bool). IfSome o (λ x. x ≡ false)) b (t.none_lost w);
       };

@@ -4,7 +4,7 @@ use Rattle.std.proofs.lemmas.Bool.Decides.{nat_tests}
 use Rattle.std.proofs.lemmas.List.Sums.{sum_by-cons, sum_by-append}
 use Rattle.std.specs.Prelude.{slice_get, take, drop, count_by}
 use Rattle.nl_tree.specs.declared.call.Line.{Line}
-use Rattle.nl_turns.specs.Seat.{Passed, by_seat, entries, NoneBeyond}
+use Rattle.nl_turns.specs.Seat.{Passed, by_seat, entries, NoNumberBeyond}
 use Rattle.nl_turns.specs.declared.entry.Entry.{Entry}
 use Rattle.nl_workers.specs.Placed.{entries_of, effects_of}
 use Rattle.nl_workers.specs.Worked.{lines_between}
@@ -34,14 +34,14 @@ from_cons f a (suc c) p xs =
     let one = in_range p.seat a c (f p.entry) in
     omega arith
 
-below_next : (n : ℕ) (p : Passed) (xs : List Passed) → NoneBeyond n (p ∷ xs) → p.seat < n
+below_next : (n : ℕ) (p : Passed) (xs : List Passed) → NoNumberBeyond n (p ∷ xs) → p.seat < n
 below_next n p xs none = lt_of_not-le (λ le. not_empty (p.seat == p.seat) (eq-eqb p.seat p.seat refl) (none p.seat le))
   where
     not_empty : (b : Bool) → b ≡ true → cond b (p ∷ by_seat p.seat xs) (by_seat p.seat xs) ≡ [] → ⊥
     not_empty true so e = absurd (cc e)
     not_empty false so e = absurd (cc so)
 
-none_later : (n : ℕ) (p : Passed) (xs : List Passed) → NoneBeyond n (p ∷ xs) → NoneBeyond n xs
+none_later : (n : ℕ) (p : Passed) (xs : List Passed) → NoNumberBeyond n (p ∷ xs) → NoNumberBeyond n xs
 none_later n p xs none m le = go (p.seat == m) (none m le)
   where
     go : (b : Bool) → cond b (p ∷ by_seat m xs) (by_seat m xs) ≡ [] → by_seat m xs ≡ []
@@ -57,7 +57,7 @@ whole_range s n true h = grind (arith, nat_tests)
 whole_range s n false h = grind (arith, nat_tests)
 
 -- where no number from n on stands in the history, all entries of a kind are those of the seats below n
-pub all_counted : (f : Entry → Bool) (n : ℕ) (xs : List Passed) → NoneBeyond n xs → count_by f (entries xs) ≡ counted_from f 0 n xs
+pub all_counted : (f : Entry → Bool) (n : ℕ) (xs : List Passed) → NoNumberBeyond n xs → count_by f (entries xs) ≡ counted_from f 0 n xs
 all_counted f n [] none = sym (from_none f 0 n)
 all_counted f n (p ∷ xs) none =
     let rest = all_counted f n xs (none_later n p xs none) in
@@ -66,7 +66,7 @@ all_counted f n (p ∷ xs) none =
     let c = whole_range p.seat n (f p.entry) (below_next n p xs none) in
     omega arith
 
-pub all_effects : (m n : ℕ) (xs : List Passed) → NoneBeyond n xs → effects_of m (entries xs) ≡ effects_from m 0 n xs
+pub all_effects : (m n : ℕ) (xs : List Passed) → NoNumberBeyond n xs → effects_of m (entries xs) ≡ effects_from m 0 n xs
 all_effects m n xs none = all_counted (λ (e : Entry). e.line == m) n xs none
 
 pub counted_append : (f : Entry → Bool) (a c d : ℕ) (xs : List Passed) → counted_from f a (c + d) xs ≡ counted_from f a c xs + counted_from f (a + c) d xs

@@ -2,7 +2,7 @@
 use Rattle.std.specs.Prelude.{◌≡◌, ◌==◌, ℕ, zero, suc, ◌+◌, ◌<◌, ◌≤◌, ◌&&◌, nat_lt, ◌||◌, Bool, List, [], ◌∷◌, length, slice_get, Some, Contains, false, count_by}
 use mathlib.Core.List.{IsPrefix}
 use Rattle.nl_tree.specs.declared.call.Line.{Line}
-use Rattle.nl_turns.specs.Seat.{Passed, SeatState, by_seat, NoneBeyond}
+use Rattle.nl_turns.specs.Seat.{Passed, SeatState, by_seat, NoNumberBeyond}
 use Rattle.nl_turns.specs.declared.entry.Entry.{Entry}
 use Rattle.nl_workers.specs.Placed.{EachPlaced, KnowsLosses, entries_of, effects_of, losses_by}
 use Rattle.nl_workers.specs.Worked.{AreLinesOf, IsEpoch, AreDone, IsStation, lines_between}
@@ -43,12 +43,12 @@ pub record MayStart (tells : Type 0) (lines : List Line) (from to : ℕ) (seat :
   pub stations_are : (w : ℕ) (s : Station) → slice_get stations w ≡ Some s → IsStation tells seat.opening lines w from seat.seen s
 
 -- The workers did their lines. Some had seats of their own, with the next numbers, which the first seat took back.
-pub record HasRun (tells : Type 0) (lines : List Line) (from to : ℕ) (seat : SeatState) (stations : List Station) (after : SeatState)
+pub record CrewHasRun (tells : Type 0) (lines : List Line) (from to : ℕ) (seat : SeatState) (stations : List Station) (after : SeatState)
     (worked : List Station) : Type 0 where
   pub count : ℕ
   pub same : after ≡ record seat { seen = after.seen; next = seat.next + count; joined = after.joined }
   pub grows : IsPrefix seat.seen after.seen
-  pub numbers : NoneBeyond seat.next seat.seen → NoneBeyond after.next after.seen
+  pub numbers : NoNumberBeyond seat.next seat.seen → NoNumberBeyond after.next after.seen
   pub joined : (n : ℕ) → Contains seat.joined n → Contains after.joined n × (by_seat n after.seen ≡ by_seat n seat.seen)
   pub each : (i : ℕ) → i < count → Contains after.joined (seat.next + i) × EachPlaced lines (seat.next + i) after.seen
   pub placed : EachPlaced lines 0 after.seen

@@ -8,7 +8,7 @@ use Rattle.nl_tree.specs.declared.call.Line.{Line}
 use Rattle.nl_tree.specs.declared.turn.Duty.{Duty}
 use Rattle.nl_tree.specs.declared.turn.Duty.TheVariants.{Copy}
 use Rattle.nl_turns.specs.Seat.{SeatState}
-use Rattle.nl_workers.specs.Placed.{EachPlaced, GoesOn, KnowsLosses, entries_of, effects_of, losses_by}
+use Rattle.nl_workers.specs.Placed.{EachPlaced, SeatAdvances, KnowsLosses, entries_of, effects_of, losses_by}
 use Rattle.nl_workers.specs.declared.duty.Cleaner.{Cleaner}
 use Rattle.nl_workers.specs.declared.duty.Handler.{Handler}
 use Rattle.nl_workers.specs.declared.outbox.Outbox.{Outbox}
@@ -19,7 +19,7 @@ is_copy _ = false
 
 -- A seat went on by background tasks: its entries have neither a line nor a staging.
 pub record HasServed (seat after : SeatState) : Type 0 where
-  pub goes : GoesOn seat after
+  pub goes : SeatAdvances seat after
   pub placed : (lines : List Line) → EachPlaced lines seat.number seat.seen → EachPlaced lines seat.number after.seen
   pub done : (m : ℕ) → 0 < m → effects_of m (entries_of seat.number after.seen) ≡ effects_of m (entries_of seat.number seat.seen)
 

@@ -6,7 +6,7 @@ use Rattle.nl_tree.specs.Replay.{Answers}
 use Rattle.nl_tree.specs.declared.call.Line.{Line}
 use Rattle.nl_tree.specs.declared.turn.Answered.{Answered}
 use Rattle.nl_turns.specs.History.{Opening, line_at, losses}
-use Rattle.nl_turns.specs.Seat.{Passed, SeatState, entries, by_seat, passed_by, NoneBeyond}
+use Rattle.nl_turns.specs.Seat.{Passed, SeatState, entries, by_seat, passed_by, NoNumberBeyond}
 use Rattle.nl_turns.specs.Served.{IsLineOf, effect_entry, place_due, ordinal_due, outcome_due}
 use Rattle.nl_turns.specs.declared.entry.Entry.{Entry}
 
@@ -40,17 +40,17 @@ pub record HasPassed (seat : SeatState) (entry : Entry) (after : SeatState) : Ty
   pub quiet : by_seat seat.number mid ≡ by_seat seat.number seat.seen
   pub same : after ≡ record seat { seen = mid ++ passed_by seat.number entry ∷ [] }
   pub joined : (n : ℕ) → Contains seat.joined n → by_seat n after.seen ≡ by_seat n seat.seen
-  pub numbers : seat.number ≡ 0 → NoneBeyond seat.next after.seen
+  pub numbers : seat.number ≡ 0 → NoNumberBeyond seat.next after.seen
 
 -- A seat went on: it has seen more, and nothing new of the seats that it took back or of numbers that are still to be given.
-pub record GoesOn (seat after : SeatState) : Type 0 where
+pub record SeatAdvances (seat after : SeatState) : Type 0 where
   pub same : after ≡ record seat { seen = after.seen }
   pub grows : IsPrefix seat.seen after.seen
   pub joined : (n : ℕ) → Contains seat.joined n → by_seat n after.seen ≡ by_seat n seat.seen
-  pub numbers : seat.number ≡ 0 → NoneBeyond seat.next seat.seen → NoneBeyond seat.next after.seen
+  pub numbers : seat.number ≡ 0 → NoNumberBeyond seat.next seat.seen → NoNumberBeyond seat.next after.seen
 
 -- the effect of a line stands in the history
-pub record HasEffect (line : ℕ) (history : List Passed) : Type 0 where
+pub record LineTookEffect (line : ℕ) (history : List Passed) : Type 0 where
   pub before : List Passed
   pub entry : Passed
   pub after : List Passed
@@ -58,10 +58,10 @@ pub record HasEffect (line : ℕ) (history : List Passed) : Type 0 where
   pub line_is : entry.entry.line ≡ line
 
 -- the effects of all lines that have to precede the line stand in the history
-abbrev pub MayRun : List Line → ℕ → List Passed → Type 0
-MayRun lines number history =
+abbrev pub LineMayRun : List Line → ℕ → List Passed → Type 0
+LineMayRun lines number history =
     IfSome (line_at lines number)
-    (λ line. (earlier : Line) → Contains lines earlier → IsTrue (has_to_precede earlier line) → HasEffect earlier.line history)
+    (λ line. (earlier : Line) → Contains lines earlier → IsTrue (has_to_precede earlier line) → LineTookEffect earlier.line history)
 
 -- the last entry is that the line had nothing left to stage
 pub record EndsStaged (line : ℕ) (mine : List Entry) : Type 0 where
@@ -73,15 +73,15 @@ pub record EndsStaged (line : ℕ) (mine : List Entry) : Type 0 where
 
 -- An entry behind this history stands where it may: one that staged for a line stands behind the effects of all lines that have to
 -- precede it, and an effect directly behind the end of its staging, among the entries of its seat.
-pub record IsPlaced (lines : List Line) (number : ℕ) (before : List Passed) (entry : Entry) : Type 0 where
-  pub staged : 0 < entry.staged → MayRun lines entry.staged before
+pub record EntryIsPlaced (lines : List Line) (number : ℕ) (before : List Passed) (entry : Entry) : Type 0 where
+  pub staged : 0 < entry.staged → LineMayRun lines entry.staged before
   pub effect : 0 < entry.line → EndsStaged entry.line (entries_of number before)
 
 -- each entry of the seat does
 abbrev pub EachPlaced : List Line → ℕ → List Passed → Type 0
 EachPlaced lines number history =
     (before : List Passed) (entry : Entry) (after : List Passed) → before ++ passed_by number entry ∷ after ≡ history
-    → IsPlaced lines number before entry
+    → EntryIsPlaced lines number before entry
 
 -- the answer has the place, the number among the effects, and the content that are due behind this history
 pub record IsDueAt (tells : Type 0) (opening : Opening) (line : Line) (answered : Answered) (bytes : List ℕ)
@@ -102,7 +102,7 @@ pub record IsAnswered (tells : Type 0) (opening : Opening) (line : Line) (answer
 -- a seat ran one line
 pub record HasAnswered (tells : Type 0) (lines : List Line) (line : Line) (answered : Answered) (bytes : List ℕ)
     (seat after : SeatState) : Type 0 where
-  pub goes : GoesOn seat after
+  pub goes : SeatAdvances seat after
   pub placed : EachPlaced lines seat.number after.seen
   pub answered_is : IsAnswered tells seat.opening line answered bytes after.seen
   pub done : (m : ℕ) → 0 < m
@@ -110,7 +110,7 @@ pub record HasAnswered (tells : Type 0) (lines : List Line) (line : Line) (answe
 
 -- a seat has staged for a line, and may go on
 pub record IsStaging (lines : List Line) (line : ℕ) (seat after : SeatState) : Type 0 where
-  pub goes : GoesOn seat after
+  pub goes : SeatAdvances seat after
   pub placed : EachPlaced lines seat.number after.seen
-  pub may : MayRun lines line after.seen
+  pub may : LineMayRun lines line after.seen
   pub done : (m : ℕ) → 0 < m → effects_of m (entries_of seat.number after.seen) ≡ effects_of m (entries_of seat.number seat.seen)

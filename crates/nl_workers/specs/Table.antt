@@ -20,14 +20,14 @@ pub record DeskState : Type 0 where
 abbrev pub lines_to_come : ℕ → List Line → ℕ
 lines_to_come worker lines = count_by (λ (l : Line). l.worker == worker) lines
 
-abbrev pub bytes_for : ℕ → Line → ℕ
-bytes_for worker line = if line.worker == worker then read_length line.call else 0
+abbrev pub read_bytes_of_line : ℕ → Line → ℕ
+read_bytes_of_line worker line = if line.worker == worker then read_length line.call else 0
 
 abbrev pub bytes_to_come : ℕ → List Line → ℕ
-bytes_to_come worker lines = sum_by (bytes_for worker) lines
+bytes_to_come worker lines = sum_by (read_bytes_of_line worker) lines
 
 -- A desk has room for just these lines of the worker.
-pub record HasRoom (worker : ℕ) (lines : List Line) (desk : DeskState) : Type 0 where
+pub record DeskHasRoom (worker : ℕ) (lines : List Line) (desk : DeskState) : Type 0 where
   pub lines_left : desk.lines_left ≡ lines_to_come worker lines
   pub bytes_left : desk.bytes_left ≡ bytes_to_come worker lines
 
@@ -50,6 +50,6 @@ pub record IsTableFor (lines : List Line) (table : TableState) : Type 0 where
   pub not_lost : table.lost ≡ false
   pub workers : length table.desks ≡ 8
   pub places : table.places ≡ length lines
-  pub desks : (worker : ℕ) → IfSome (slice_get table.desks worker) (λ d. HasRoom worker lines d)
+  pub desks : (worker : ℕ) → IfSome (slice_get table.desks worker) (λ d. DeskHasRoom worker lines d)
   pub none_lost : (worker : ℕ) → IfSome (slice_get table.lost_by worker) (λ lost. lost ≡ false)
   pub blank : (worker : ℕ) → IfSome (slice_get table.desks worker) (λ d. d.rows ≡ [])

@@ -2,8 +2,8 @@
 ghost use Rattle.std.specs.Prelude.{◌≡◌, ◌==◌, ◌<◌, ◌≤◌, ◌+◌, [], length, IfOk, IfSome, Some, slice_get};
 ghost use Rattle.nl_tree.specs.Calls.{IsLine};
 ghost use Rattle.nl_workers.specs.Placed.{one_if};
-ghost use Rattle.nl_workers.specs.Fresh.{IsFresh, AreFresh};
-ghost use Rattle.nl_workers.specs.Table.{IsTableFor, lines_to_come, bytes_to_come, bytes_for};
+ghost use Rattle.nl_workers.specs.Fresh.{IsFreshStation, AreFresh};
+ghost use Rattle.nl_workers.specs.Table.{IsTableFor, lines_to_come, bytes_to_come, read_bytes_of_line};
 
 use crate::desk::{Desk, LineAnswer, room_of};
 use crate::placing::{Spot, blank_spots, station_at};
@@ -102,7 +102,7 @@ fn stations_for(alloc: Global, lines: &Lines) -> Result<Vec<Station>, Memory>
 }
 
 fn station_for(alloc: Global, lines: &Lines, worker: u8) -> Result<Station, Memory>
-    ensures { IfOk result (λ s. IsFresh lines.now worker s) }
+    ensures { IfOk result (λ s. IsFreshStation lines.now worker s) }
 {
     let (count, bytes) = room_for(lines, worker);
     Ok(Station {
@@ -135,7 +135,7 @@ fn own_line(line: &Line, worker: u8) -> u32
 #[tactic(auto, using(crate::proofs::Rooms::bounded_few))]
 fn own_bytes(line: &Line, worker: u8) -> usize
     requires { IsLine line.now }
-    ensures bytes { result ≡ bytes_for worker line.now }
+    ensures bytes { result ≡ read_bytes_of_line worker line.now }
     ensures few { result ≤ 65536 }
 {
     if line.worker == worker {

@@ -1,7 +1,7 @@
 //! The workers of an epoch run in threads, beside the loops of the cleaner and the handler.
 ghost use Rattle.std.specs.Prelude.{◌≡◌};
 ghost use Rattle.std.specs.Thread.{IsSync};
-ghost use Rattle.nl_workers.specs.Crew.{MayStart, HasRun};
+ghost use Rattle.nl_workers.specs.Crew.{MayStart, CrewHasRun};
 ghost use Rattle.nl_workers.specs.Duties.{MayClean, HasCleaned, MayHandle, HasHandled};
 
 use crate::crew::{Crew, run_crew};
@@ -34,7 +34,7 @@ pub(crate) fn run_beside<V: Served + Send, R: Threads + Wait + Sync, G: Gate + S
     requires may { MayStart V.tells lines.now span.from span.to crew.seat crew.stations.items }
     ensures cleaned { HasCleaned V.tells notices.now crew.cleaner result.cleaner }
     ensures handled { HasHandled V.tells notices.now crew.handler result.handler }
-    ensures ran { HasRun V.tells lines.now span.from span.to crew.seat crew.stations.items result.seat result.stations.items }
+    ensures ran { CrewHasRun V.tells lines.now span.from span.to crew.seat crew.stations.items result.seat result.stations.items }
 {
     let Crew {
         seat,
@@ -53,7 +53,7 @@ pub(crate) fn run_beside<V: Served + Send, R: Threads + Wait + Sync, G: Gate + S
             requires { IsSync R.row × IsSync G.row × MayHandle turns.now.name notices.now handler × (seat.lock ≡ turns.now.name)
                 × MayStart V.tells lines.now span.from span.to seat stations.items }
             ensures { HasHandled V.tells notices.entry.now handler result.0
-                × HasRun V.tells lines.entry.now span.from span.to seat stations.items result.1.0 result.1.1.items }
+                × CrewHasRun V.tells lines.entry.now span.from span.to seat stations.items result.1.0 result.1.1.items }
         {
             handle_beside(
                 rt, turns, stop, notices, handler, seat, lines, span, stations, gate,
@@ -84,7 +84,7 @@ fn handle_beside<V: Served + Send, R: Threads + Wait + Sync, G: Gate + Sync>(
     requires lock { seat.lock ≡ turns.now.name }
     requires may { MayStart V.tells lines.now span.from span.to seat stations.items }
     ensures handled { HasHandled V.tells notices.now handler result.0 }
-    ensures ran { HasRun V.tells lines.now span.from span.to seat stations.items result.1.0 result.1.1.items }
+    ensures ran { CrewHasRun V.tells lines.now span.from span.to seat stations.items result.1.0 result.1.1.items }
 {
     join(
         rt,
@@ -95,7 +95,7 @@ fn handle_beside<V: Served + Send, R: Threads + Wait + Sync, G: Gate + Sync>(
         move || -> (TurnSeat, Vec<Station>)
             requires { IsSync R.row × IsSync G.row × (seat.lock ≡ turns.now.name)
                 × MayStart V.tells lines.now span.from span.to seat stations.items }
-            ensures { HasRun V.tells lines.entry.now span.from span.to seat stations.items result.0 result.1.items }
+            ensures { CrewHasRun V.tells lines.entry.now span.from span.to seat stations.items result.0 result.1.items }
         {
             let ran = run_crew(rt, turns, seat, lines, span, stations, gate);
             stop.raise();

@@ -2,7 +2,7 @@
 ghost use Rattle.std.specs.Prelude.{◌≡◌, vec_len, vec_capacity};
 ghost use Rattle.std.specs.Thread.{IsSync};
 ghost use Rattle.nl_workers.specs.Worked.{MayWork, HasWorked};
-ghost use Rattle.nl_workers.specs.Crew.{MayStart, HasRun};
+ghost use Rattle.nl_workers.specs.Crew.{MayStart, CrewHasRun};
 
 use crate::duty::{Cleaner, Handler};
 use crate::epoch::{Span, needs_thread};
@@ -36,7 +36,7 @@ pub(crate) fn run_crew<V: Served + Send, R: Threads + Wait + Sync, G: Gate + Syn
 ) -> (TurnSeat, Vec<Station>)
     requires lock { seat.lock ≡ turns.now.name }
     requires may { MayStart V.tells lines.now span.from span.to seat stations.items }
-    ensures ran { HasRun V.tells lines.now span.from span.to seat stations.items result.0 result.1.items }
+    ensures ran { CrewHasRun V.tells lines.now span.from span.to seat stations.items result.0 result.1.items }
     ensures room { vec_capacity result.1 ≡ vec_capacity stations }
 {
     let Some(station) = stations.pop() else {
@@ -61,7 +61,7 @@ pub(crate) fn run_crew<V: Served + Send, R: Threads + Wait + Sync, G: Gate + Syn
         move || -> (TurnSeat, Vec<Station>)
             requires { IsSync R.row × IsSync G.row × (seat.lock ≡ turns.now.name)
                 × MayStart V.tells lines.now span.from span.to seat stations.items }
-            ensures { HasRun V.tells lines.entry.now span.from span.to seat stations.items result.0 result.1.items
+            ensures { CrewHasRun V.tells lines.entry.now span.from span.to seat stations.items result.0 result.1.items
                 × (vec_capacity result.1 ≡ vec_capacity stations) }
         { run_crew(rt, turns, seat, lines, span, stations, gate) },
     );

@@ -7,8 +7,8 @@ ghost use Rattle.nl_turns.specs.Seat.{entries};
 ghost use Rattle.nl_workers.specs.Crew.{any_lost};
 ghost use Rattle.nl_workers.specs.Duties.{IsOutbox};
 ghost use Rattle.nl_workers.specs.Fresh.{AreFresh};
-ghost use Rattle.nl_workers.specs.Going.{IsGoing, MayGo, HasRunAll, IsHome, MayRunRounds};
-ghost use Rattle.nl_workers.specs.Rounds.{IsFirstSeat, RoundsRan};
+ghost use Rattle.nl_workers.specs.Going.{IsUnderWay, MayGo, HasRunAll, TookSeatsBack, MayRunEpochs};
+ghost use Rattle.nl_workers.specs.Rounds.{IsFirstSeat, EpochsRan};
 ghost use Rattle.nl_workers.specs.Spots.{rows_at, AreSpots};
 ghost use Rattle.nl_workers.specs.Table.{IsTableFor};
 
@@ -48,8 +48,8 @@ fn run_epochs<V: Served + Send, R: Threads + Wait + Sync, G: Gate + Sync>(
     gate: &G,
 ) -> Crew
     requires may { MayGo turns.now.name lines.now crew.seat }
-    requires going { IsGoing V.tells turns.now.name notices.now lines.now crew.seat 0 crew }
-    ensures { IsGoing V.tells turns.now.name notices.now lines.now crew.seat (length lines.now) result }
+    requires going { IsUnderWay V.tells turns.now.name notices.now lines.now crew.seat 0 crew }
+    ensures { IsUnderWay V.tells turns.now.name notices.now lines.now crew.seat (length lines.now) result }
 {
     let mut from = 0;
     while from < lines.len() {
@@ -144,7 +144,7 @@ fn send_home<V: Served>(turns: &Turns<V>, crew: Crew) -> (TurnSeat, Home)
         × (crew.handler.seat.lock ≡ turns.now.name) }
     requires idle { (crew.seat.has_turn ≡ false) × (crew.cleaner.seat.has_turn ≡ false) × (crew.handler.seat.has_turn ≡ false) }
     requires first { crew.seat.number ≡ 0 }
-    ensures home { IsHome crew.seat crew.cleaner.seat crew.handler.seat result.0 }
+    ensures home { TookSeatsBack crew.seat crew.cleaner.seat crew.handler.seat result.0 }
     ensures stations { result.1.stations.items ≡ crew.stations.items }
     ensures passes { (result.1.passes.outbox ≡ crew.cleaner.outbox) × (result.1.passes.taker ≡ crew.handler.pass) }
     ensures lost { result.1.lost ≡ (crew.cleaner.lost || (crew.handler.lost || any_lost crew.stations.items)) }
@@ -192,8 +192,8 @@ fn run_placed<V: Served + Send, R: Threads + Wait + Sync, G: Gate + Sync>(
     spare: Vec<Spot>,
     gate: &G,
 ) -> (TurnSeat, (Home, Vec<Spot>))
-    requires { MayRunRounds turns.now.name notices.now lines.now seat stations.items passes (vec_len spare) }
-    ensures ran { RoundsRan V.tells seat lines.now (rows_at result.1.0.stations.items result.1.1.items) result.0 }
+    requires { MayRunEpochs turns.now.name notices.now lines.now seat stations.items passes (vec_len spare) }
+    ensures ran { EpochsRan V.tells seat lines.now (rows_at result.1.0.stations.items result.1.1.items) result.0 }
     ensures spots { AreSpots result.1.0.stations.items result.1.1.items × (length result.1.1.items < 2 ^ 32) }
     ensures kit { IsOutbox notices.now result.1.0.passes.outbox × IsTaker notices.now result.1.0.passes.taker }
     ensures found { result.1.0.lost ≡ has_lost_page (entries result.0.seen) }
@@ -223,7 +223,7 @@ pub fn run_rounds<V: Served + Send, R: Threads + Wait + Sync, G: Gate + Sync>(
     requires lock { seat.old.lock ≡ turns.now.name }
     requires first { IsFirstSeat lines.now seat.old }
     requires table { IsTableFor lines.now answers.old }
-    ensures ran { RoundsRan V.tells seat.old lines.now answers.new.rows seat.new }
+    ensures ran { EpochsRan V.tells seat.old lines.now answers.new.rows seat.new }
     ensures found { answers.new.lost ≡ has_lost_page (entries seat.new.seen) }
     ensures lost { V.tells → answers.new.lost ≡ false }
     ensures kit { kit.new.room ≡ kit.old.room }
@@ -239,8 +239,8 @@ pub fn run_rounds<V: Served + Send, R: Threads + Wait + Sync, G: Gate + Sync>(
         seat,
         move |own: TurnSeat| -> (TurnSeat, (Home, Vec<Spot>))
             requires { IsSync R.row × IsSync G.row
-                × MayRunRounds turns.now.name notices.now lines.now own stations.items passes (vec_len spare) }
-            ensures ran { RoundsRan V.tells own lines.entry.now (rows_at result.1.0.stations.items result.1.1.items) result.0 }
+                × MayRunEpochs turns.now.name notices.now lines.now own stations.items passes (vec_len spare) }
+            ensures ran { EpochsRan V.tells own lines.entry.now (rows_at result.1.0.stations.items result.1.1.items) result.0 }
             ensures spots { AreSpots result.1.0.stations.items result.1.1.items × (length result.1.1.items < 2 ^ 32) }
             ensures kit { IsOutbox notices.entry.now result.1.0.passes.outbox × IsTaker notices.entry.now result.1.0.passes.taker }
             ensures found { result.1.0.lost ≡ has_lost_page (entries result.0.seen) }

@@ -6,7 +6,7 @@ ghost use Rattle.nl_tree.specs.declared.turn.Stage.TheVariants.{Staged, Whole};
 ghost use Rattle.nl_turns.specs.Examples.{three_lines, from_five, five_turns};
 ghost use Rattle.nl_turns.specs.Served.{stage_entry, effect_entry};
 ghost use Rattle.nl_workers.specs.Examples.{first_row, has_staged_for, one_done};
-ghost use Rattle.nl_workers.specs.Placed.{IsPlaced, KnowsLosses};
+ghost use Rattle.nl_workers.specs.Placed.{EntryIsPlaced, KnowsLosses};
 ghost use Rattle.nl_workers.specs.Rounds.{IsRowAt};
 
 /// A row has the place, the number among the effects, the fault and the answer of its effect.
@@ -21,18 +21,18 @@ pub fn answers()
 
 /// A line stages behind the effects of all lines that have to precede it: line 3 behind line 1, which is of its worker.
 pub fn stagings()
-    ensures first { IsPlaced three_lines 3 [] (stage_entry 1 Whole) }
-    ensures too_early { IsPlaced three_lines 3 [] (stage_entry 3 Whole) → ⊥ }
-    ensures in_order { IsPlaced three_lines 3 one_done (stage_entry 3 Whole) }
+    ensures first { EntryIsPlaced three_lines 3 [] (stage_entry 1 Whole) }
+    ensures too_early { EntryIsPlaced three_lines 3 [] (stage_entry 3 Whole) → ⊥ }
+    ensures in_order { EntryIsPlaced three_lines 3 one_done (stage_entry 3 Whole) }
 {}
 
 /// An effect stands directly behind the end of its own staging, by its own seat.
 pub fn effects()
-    ensures staged { IsPlaced three_lines 3 (has_staged_for 3 1 Whole) (effect_entry 1 Done) }
-    ensures not_begun { IsPlaced three_lines 3 [] (effect_entry 1 Done) → ⊥ }
-    ensures not_whole { IsPlaced three_lines 3 (has_staged_for 3 1 Staged) (effect_entry 1 Done) → ⊥ }
-    ensures other_line { IsPlaced three_lines 3 (has_staged_for 3 2 Whole) (effect_entry 1 Done) → ⊥ }
-    ensures other_seat { IsPlaced three_lines 3 (has_staged_for 4 1 Whole) (effect_entry 1 Done) → ⊥ }
+    ensures staged { EntryIsPlaced three_lines 3 (has_staged_for 3 1 Whole) (effect_entry 1 Done) }
+    ensures not_begun { EntryIsPlaced three_lines 3 [] (effect_entry 1 Done) → ⊥ }
+    ensures not_whole { EntryIsPlaced three_lines 3 (has_staged_for 3 1 Staged) (effect_entry 1 Done) → ⊥ }
+    ensures other_line { EntryIsPlaced three_lines 3 (has_staged_for 3 2 Whole) (effect_entry 1 Done) → ⊥ }
+    ensures other_seat { EntryIsPlaced three_lines 3 (has_staged_for 4 1 Whole) (effect_entry 1 Done) → ⊥ }
 {}
 
 /// A lost page is known exactly where one was lost before, or the history has more of them.

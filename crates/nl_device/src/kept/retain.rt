@@ -2,7 +2,7 @@
 ghost use Rattle.std.specs.Prelude.{◌≡◌, ◌≢◌, ℕ, ◌<◌, cond, length};
 ghost use Rattle.nl_callbacks.specs.Pending.{callback_of};
 ghost use Rattle.nl_device.specs.Posting.{Posts};
-ghost use Rattle.nl_device.specs.Retain.{CanLoad, CanRetain, HasCalled, HasLoaded, IsCalled, IsFresh, IsIdle, IsSegmentFor, Loads, placed_at};
+ghost use Rattle.nl_device.specs.Retain.{CanLoadPointer, CanRetain, HasCalled, HasLoaded, IsCalled, IsFreshSegment, IsEmptyPending, IsSegmentFor, LoadsPointer, placed_at};
 ghost use Rattle.nl_device.specs.Kept.{HasCopies, forgotten};
 
 use super::Kept;
@@ -44,8 +44,8 @@ impl Kept {
     /// The place of a pointer is live. Where it is not its name, the name leads to it, and a callback tells so.
     fn load(&self, pseg: &mut PSeg, pending: &mut Pending, spare: Option<u32>, at: &Pointer)
         requires segment { IsSegmentFor self.now pseg.old }
-        requires can { CanLoad self.now spare at.now pseg.old pending.old }
-        ensures loaded { Loads self.now (placed_at self.now spare at.now) at.now pseg.old pseg.new }
+        requires can { CanLoadPointer self.now spare at.now pseg.old pending.old }
+        ensures loaded { LoadsPointer self.now (placed_at self.now spare at.now) at.now pseg.old pseg.new }
         ensures called { IsCalled self.now spare at.now pending.old pending.new }
     {
         let _ = &self.first;
@@ -63,8 +63,8 @@ impl Kept {
     /// callbacks.
     pub(crate) fn retain(&mut self, pseg: &mut PSeg, pending: &mut Pending, list: &PointerList)
         requires segment { IsSegmentFor self.old pseg.old }
-        requires fresh { IsFresh pseg.old }
-        requires idle { IsIdle self.old pending.old }
+        requires fresh { IsFreshSegment pseg.old }
+        requires idle { IsEmptyPending self.old pending.old }
         requires can { CanRetain self.old list.now.items }
         ensures loaded { HasLoaded self.old list.now.items (length list.now.items) pseg.old pseg.new }
         ensures called { HasCalled self.old list.now.items (length list.now.items) pseg.new pending.old pending.new }

@@ -4,7 +4,7 @@ ghost use Rattle.std.specs.List.{range_with_len};
 ghost use Rattle.std.specs.Ordering.{nat_cmp};
 ghost use Rattle.std.specs.BTreeMap.{get};
 ghost use Rattle.nl_device.specs.Kept.{spare_among};
-ghost use Rattle.nl_device.specs.Marks.{marked};
+ghost use Rattle.nl_device.specs.Marks.{with_lone_block};
 
 use super::Kept;
 use super::copies::Copies;
@@ -27,7 +27,7 @@ fn mark(alone: &mut Vec<bool>, copies: &BTreeMap<u64, Copies>, stamp: u64, first
     requires some { 0 < size }
     requires within { IfSome (get nat_cmp copies.now stamp)
         (λ c. (first ≤ c.first / size) × (c.first / size < first + length alone.old.items)) }
-    ensures { alone.new.items ≡ marked first size (get nat_cmp copies.now stamp) alone.old.items }
+    ensures { alone.new.items ≡ with_lone_block first size (get nat_cmp copies.now stamp) alone.old.items }
 {
     if let Some(copies) = copies.get(&stamp) {
         if copies.apart.is_none() {

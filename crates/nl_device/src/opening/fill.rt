@@ -1,10 +1,10 @@
 // The page that each address takes.
 ghost use Rattle.std.specs.Prelude.{◌≡◌, ◌<◌, ◌^◌, ℕ, length, slice_index_or, slice_set, option_map, replicate, All, None, true, IfOk, IfSome};
 ghost use Rattle.nl_field.specs.Space.{is_outside};
-ghost use Rattle.nl_device.specs.Opening.{CanLoad, IsLoaded, Tabulates, filled, pick_of, place_on, with_pick};
+ghost use Rattle.nl_device.specs.Opening.{CanLoadAddress, IsLoaded, Tabulates, with_offers, pick_of, place_on, with_pick};
 ghost use Rattle.nl_device.specs.declared.opening.own.Own.{Own as OwnOf};
 ghost use Rattle.nl_vseg.specs.Places.{place_of};
-ghost use Rattle.nl_vseg.specs.Segment.{SameSize, is_blank};
+ghost use Rattle.nl_vseg.specs.Segment.{SameSize, is_taken_as_erased};
 
 use crate::opening::own::Own;
 use nl_field::Memory;
@@ -39,7 +39,7 @@ fn fill(picks: &mut Vec<Option<Own>>, needed: &Vec<Own>, pages: u32, spare: Opti
     requires some { 0 < pages }
     requires below { All (λ (o : OwnOf). o.vaddr < length picks.old.items) needed.now.items }
     ensures { Tabulates (length picks.old.items) None
-        (λ v. filled pages spare needed.now.items (slice_index_or picks.old.items v None) v) picks.new.items }
+        (λ v. with_offers pages spare needed.now.items (slice_index_or picks.old.items v None) v) picks.new.items }
 {
     for own in needed {
         take(picks, own, pages, spare);
@@ -73,7 +73,7 @@ pub fn picks(
 fn load_one(vseg: &mut VSeg, pick: Option<Own>, vaddr: u32)
     requires unmapped { place_of vseg.old.places vaddr ≡ None }
     requires below { vaddr < length vseg.old.places }
-    requires pick { IfSome pick (CanLoad vseg.old.bound vaddr) }
+    requires pick { IfSome pick (CanLoadAddress vseg.old.bound vaddr) }
     ensures { IsLoaded vaddr pick vseg.old vseg.new }
 {
     if let Some(own) = pick {
@@ -86,10 +86,10 @@ pub fn load(vseg: &mut VSeg, picks: &Vec<Option<Own>>)
     requires count { length vseg.old.places ≡ length picks.now.items }
     requires few { length picks.now.items < 2 ^ 32 }
     requires unmapped { (v : ℕ) → place_of vseg.old.places v ≡ None }
-    requires picks { (v : ℕ) → IfSome (slice_index_or picks.now.items v None) (CanLoad vseg.old.bound v) }
+    requires picks { (v : ℕ) → IfSome (slice_index_or picks.now.items v None) (CanLoadAddress vseg.old.bound v) }
     ensures places { (v : ℕ) → place_of vseg.new.places v ≡ option_map place_on (slice_index_or picks.now.items v None) }
     ensures numbers { SameSize vseg.old vseg.new }
-    ensures blank { (p : ℕ) → is_blank vseg.new p ≡ true → is_blank vseg.old p ≡ true }
+    ensures blank { (p : ℕ) → is_taken_as_erased vseg.new p ≡ true → is_taken_as_erased vseg.old p ≡ true }
 {
     for vaddr in 0..picks.len() {
         load_one(vseg, picks[vaddr], vaddr as u32);

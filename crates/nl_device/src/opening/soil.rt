@@ -5,7 +5,7 @@ ghost use Rattle.nl_field.specs.declared.seen.Seen.{Seen as SeenOf};
 ghost use Rattle.nl_device.specs.Opening.{IsSoiled, SaysErased, Tabulates, wear_in};
 ghost use Rattle.nl_pseg.specs.Segment.{IsClean, IsNextCopy, KeepsBlock, TakenAsErased};
 ghost use Rattle.nl_pseg.specs.Space.{IsWhole};
-ghost use Rattle.nl_vseg.specs.Segment.{SameSize, is_blank};
+ghost use Rattle.nl_vseg.specs.Segment.{SameSize, is_taken_as_erased};
 
 use nl_field::{Memory, SpareRec};
 use nl_pseg::PSeg;
@@ -50,8 +50,8 @@ pub fn soil_virtual(vseg: &mut VSeg, tables: &ScanTables, wears: &Vec<u32>, coun
     requires bound { vseg.old.bound ≡ count * vseg.old.pages }
     ensures places { vseg.new.places ≡ vseg.old.places }
     ensures numbers { SameSize vseg.old vseg.new }
-    ensures blank { (p : ℕ) → is_blank vseg.new p ≡ true
-        → (is_blank vseg.old p ≡ true) × (p / vseg.old.pages < count → SaysErased tables.now (p / vseg.old.pages)) }
+    ensures blank { (p : ℕ) → is_taken_as_erased vseg.new p ≡ true
+        → (is_taken_as_erased vseg.old p ≡ true) × (p / vseg.old.pages < count → SaysErased tables.now (p / vseg.old.pages)) }
 {
     for block in 0..count {
         if !tables.erased(block) {

@@ -2,7 +2,7 @@ use Rattle.std.proofs.Common.{◌≡◌, ◌*◌, ◌≤◌, ℕ, refl, sym, ◌
 use Rattle.nl_field.specs.Page.{Image}
 use Rattle.nl_field.specs.declared.shape.Shape.{Shape}
 use Rattle.nl_nand.specs.declared.geometry.Geometry.{Geometry}
-use Rattle.nl_scan.specs.Passes.{KnowsPages, KnowsBlocks, Stands}
+use Rattle.nl_scan.specs.Passes.{KnowsPages, KnowsBlocks, IsPassBelow}
 use Rattle.nl_scan.proofs.Ends.{fresh_blocks, fresh_stands, pages_of, size_of}
 use Rattle.nl_scan.proofs.Knowing.{knows_nothing}
 use Rattle.nl_scan.proofs.Whole.{is_table}
@@ -15,7 +15,7 @@ pages-init g c =
     record {
       knows = λ tells. knows_nothing image c.in-Ok.pass fresh.no_pages fresh.no_virtuals fresh.no_physicals fresh.no_newest;
       blocks = λ tells. fresh_blocks image c.args.geometry.blocks c.in-Ok.pass ((g.met.M.Nand.contents_fit c.args.media.now tells).blocks ∙ ap (λ (x : Geometry). x.blocks) (sym c.requires.geometry)) fresh;
-      stands = subst (λ (x : Geometry). Stands x c.args.shape.now 0 c.in-Ok.pass) c.requires.geometry (fresh_stands c.args.geometry c.args.shape.now c.in-Ok.pass fresh);
+      stands = subst (λ (x : Geometry). IsPassBelow x c.args.shape.now 0 c.in-Ok.pass) c.requires.geometry (fresh_stands c.args.geometry c.args.shape.now c.in-Ok.pass fresh);
       reads = record { same_geometry = refl; same_contents = refl; same_left = record { no_more = λ m x l. l; no_fewer = λ m x l. l }; same_clock = refl; same_write_faults = refl };
       faults = refl;
     }
@@ -27,8 +27,8 @@ step-requires-clause-pages g c =
 
 pub returns-clause-stands : goal.returns-clause-stands
 returns-clause-stands g c =
-    subst (λ (n : ℕ). Stands c.args.geometry c.args.shape.now n c.pages.pass) (last c.pages.page (c.args.geometry.blocks * c.args.geometry.pages) c.pages.auto.page-end c.pages-test.false)
-    (subst (λ (x : Geometry). Stands x c.args.shape.now c.pages.page c.pages.pass) (c.pages.invariant.reads.same_geometry ∙ sym c.requires.geometry) c.pages.invariant.stands)
+    subst (λ (n : ℕ). IsPassBelow c.args.geometry c.args.shape.now n c.pages.pass) (last c.pages.page (c.args.geometry.blocks * c.args.geometry.pages) c.pages.auto.page-end c.pages-test.false)
+    (subst (λ (x : Geometry). IsPassBelow x c.args.shape.now c.pages.page c.pages.pass) (c.pages.invariant.reads.same_geometry ∙ sym c.requires.geometry) c.pages.invariant.stands)
   where
     last : (at count : ℕ) → at ≤ count → count ≤ at → at ≡ count
     last at count within past = omega arith

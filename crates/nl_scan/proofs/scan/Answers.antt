@@ -3,20 +3,20 @@ use Rattle.std.proofs.lemmas.Bool.{false≢true}
 use Rattle.nl_nand.specs.Nand.{IsLegal}
 use Rattle.nl_nand.specs.declared.geometry.Geometry.{Geometry}
 use Rattle.nl_field.specs.declared.shape.Shape.{Shape}
-use Rattle.nl_scan.specs.Passes.{Stands}
-use Rattle.nl_scan.specs.Tables.{IsTableOf, IsKept, FitsMedium}
+use Rattle.nl_scan.specs.Passes.{IsPassBelow}
+use Rattle.nl_scan.specs.Tables.{IsTableOf, IsSeenTable, FitsMedium}
 use Rattle.nl_field.specs.declared.seen.Seen.{Seen}
 use Rattle.nl_scan.proofs.Ends.{fits_medium, none_kept, none_fits, not_formed, none_table}
 use Rattle.nl_scan.proofs.scan.Goals as goal
 
 pub of_pass-requires : goal.of_pass-requires
-of_pass-requires g c = subst (λ (l : List Seen). IsKept l 0) (sym c.new.ensures.items) none_kept
+of_pass-requires g c = subst (λ (l : List Seen). IsSeenTable l 0) (sym c.new.ensures.items) none_kept
 
 pub returns-in-Ok-clause-fits : goal.returns-in-Ok-clause-fits
 returns-in-Ok-clause-fits g c =
     subst (λ (x : Geometry). FitsMedium x c.tables_of.result) c.geometry-geometry.ensures
     (subst (FitsMedium c.geometry-geometry.result) (sym c.tables_of.ensures) (fits_medium c.geometry-geometry.result c.in-Ok.pass
-    (subst (λ (s : Shape). Stands c.geometry-geometry.result s (c.geometry-geometry.result.blocks * c.geometry-geometry.result.pages) c.in-Ok.pass) c.in-Some.ensures.numbers c.in-Ok.ensures.stands)))
+    (subst (λ (s : Shape). IsPassBelow c.geometry-geometry.result s (c.geometry-geometry.result.blocks * c.geometry-geometry.result.pages) c.in-Ok.pass) c.in-Some.ensures.numbers c.in-Ok.ensures.stands)))
 
 pub returns-in-None-clause-fits : goal.returns-in-None-clause-fits
 returns-in-None-clause-fits g c =

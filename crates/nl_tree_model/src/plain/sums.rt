@@ -4,7 +4,7 @@ ghost use Rattle.std.specs.Option.{option_copied};
 ghost use Rattle.nl_tree.specs.Tree.{node_at};
 ghost use Rattle.nl_tree.specs.TreeLaws.{IsInOrder};
 ghost use Rattle.nl_tree.specs.Step.{space_refusal};
-ghost use Rattle.nl_tree_model.specs.PlainTree.{AreCharges};
+ghost use Rattle.nl_tree_model.specs.PlainTree.{ArePageCharges};
 ghost use Rattle.nl_tree.specs.KeptSums.{IsChangeAt, has_overfull, parent_of, data_part, ranges_part, count_at, count_part, pages_of_entries, overfull};
 
 use super::refusals::is_missing;
@@ -134,8 +134,8 @@ pub(crate) fn after_change(
     requires change { IsChangeAt path.now tree.now next.now }
     requires some { 0 < length path.now }
     requires before { None ≡ space_refusal shape tree.now }
-    requires kept { AreCharges sums.pages sums.meta tree.now }
-    ensures sums { IfOk result (λ s. AreCharges s.pages s.meta next.now) }
+    requires kept { ArePageCharges sums.pages sums.meta tree.now }
+    ensures sums { IfOk result (λ s. ArePageCharges s.pages s.meta next.now) }
     ensures room { OnOk result (None ≡ space_refusal shape next.now) }
     ensures refusal { IfErr result (λ r. Some r ≡ space_refusal shape next.now) }
 {
@@ -162,8 +162,8 @@ pub(crate) fn after_change(
 /// The sums of a tree, or what the volume lacks for it.
 fn judged(shape: Shape, tree: &[Entry], full: bool, sums: Sums) -> Result<Sums, Refusal>
     requires full { full ≡ has_overfull tree.now }
-    requires sums { AreCharges sums.pages sums.meta tree.now }
-    ensures sums { IfOk result (λ s. AreCharges s.pages s.meta tree.now) }
+    requires sums { ArePageCharges sums.pages sums.meta tree.now }
+    ensures sums { IfOk result (λ s. ArePageCharges s.pages s.meta tree.now) }
     ensures room { OnOk result (None ≡ space_refusal shape tree.now) }
     ensures refusal { IfErr result (λ r. Some r ≡ space_refusal shape tree.now) }
 {
@@ -185,7 +185,7 @@ fn judged(shape: Shape, tree: &[Entry], full: bool, sums: Sums) -> Result<Sums, 
 /// The sums of a tree in one pass over it, or what the volume lacks for it.
 pub(crate) fn in_one_pass(shape: Shape, tree: &[Entry]) -> Result<Sums, Refusal>
     requires { IsInOrder tree.now }
-    ensures sums { IfOk result (λ s. AreCharges s.pages s.meta tree.now) }
+    ensures sums { IfOk result (λ s. ArePageCharges s.pages s.meta tree.now) }
     ensures room { OnOk result (None ≡ space_refusal shape tree.now) }
     ensures refusal { IfErr result (λ r. Some r ≡ space_refusal shape tree.now) }
 {

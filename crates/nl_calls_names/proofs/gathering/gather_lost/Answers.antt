@@ -3,7 +3,7 @@ use Rattle.std.specs.Prelude.{IfSome}
 use Rattle.nl_field.specs.Graph.{Graph}
 use Rattle.nl_field.specs.declared.pointer.Pointer.{Pointer}
 use Rattle.nl_meta_running.specs.Reading.{stop_of}
-use Rattle.nl_meta_running.specs.Running.{IsUsed}
+use Rattle.nl_meta_running.specs.Running.{IsUsedNode}
 use Rattle.nl_calls_names.specs.Gathering.{GathersOn, OpensNode, graph_on, pointers_of_node}
 use Rattle.nl_calls_names.proofs.Gathered.{gathers_none, on_err, on_ok, same_graph, then_gathers, then_opens, then_reads, then_used}
 use Rattle.nl_calls_names.proofs.gathering.gather_lost.Goals as goal
@@ -13,7 +13,7 @@ gather_node-requires-clause-used g c =
     let G = g.D.Counts in
     let v = c.args.core.now in
     let e = c.in-Ok.ensures in
-    then_used G v c.find_lost.new.core c.device_stands.ensures.volume e.same c.in-Some.ino (subst (λ (o : Option ℕ). IfSome o (IsUsed G v.device v.meta)) c.in-Some.is e.used)
+    then_used G v c.find_lost.new.core c.device_stands.ensures.volume e.same c.in-Some.ino (subst (λ (o : Option ℕ). IfSome o (IsUsedNode G v.device v.meta)) c.in-Some.is e.used)
 
 pub returns-in-Some-clause-done : goal.returns-in-Some-clause-done
 returns-in-Some-clause-done g c =
@@ -33,7 +33,7 @@ returns-in-Some-clause-opened g c =
     let u = c.gather_node.new.core in
     let e = c.in-Ok.ensures in
     on_ok c.gather_node.result (λ h. subst (λ (o : Option ℕ). IfSome o (OpensNode G v u)) (sym c.in-Some.is ∙ e.node)
-    (then_opens G v c.find_lost.new.core c.device_stands.ensures.volume e.same u c.in-Some.ino (subst (λ (o : Option ℕ). IfSome o (IsUsed G v.device v.meta)) c.in-Some.is e.used) h)) c.gather_node.ensures.opened
+    (then_opens G v c.find_lost.new.core c.device_stands.ensures.volume e.same u c.in-Some.ino (subst (λ (o : Option ℕ). IfSome o (IsUsedNode G v.device v.meta)) c.in-Some.is e.used) h)) c.gather_node.ensures.opened
 
 pub returns-in-Some-clause-stopped : goal.returns-in-Some-clause-stopped
 returns-in-Some-clause-stopped g c =

@@ -3,7 +3,7 @@ use Rattle.std.proofs.lemmas.Option.{get_or_from_slice_get}
 use Rattle.nl_flight.specs.Flight.{of_worker}
 use Rattle.nl_flight.specs.declared.page.FlightPage.{FlightPage}
 use Rattle.nl_meta_running.specs.Running.{stored_on}
-use Rattle.nl_calls_steps.specs.Installing.{HasRoom, InstallsPage, IsAtHand, IsPageOfFile, page_in}
+use Rattle.nl_calls_steps.specs.Installing.{HasRoomToInstall, InstallsPage, FilePointerIsResident, IsPageOfFile, page_in}
 use Rattle.nl_calls_steps.proofs.FileInstalled.{core_after, few_items, file_record, has_place, installs_page, new_pages}
 use Rattle.nl_calls_steps.proofs.installing.install_page.Goals as goal
 
@@ -13,9 +13,9 @@ take_page-requires g c =
     let v = c.args.core.now in
     let page : FlightPage = record { index = c.in-Some.index; at = c.in-Some.at; tag = c.in-Some.field-0-2 } in
     let is : page_in v c.args.worker c.args.place ≡ page = get_or_from_slice_get (of_worker v.flight c.args.worker).pages c.args.place page _ c.in-Some.ensures.some in
-    let hand = subst (λ (p : FlightPage). IsAtHand G v c.args.ino p.index c.args.rec.now) is c.requires.hand in
+    let hand = subst (λ (p : FlightPage). FilePointerIsResident G v c.args.ino p.index c.args.rec.now) is c.requires.hand in
     let of = subst (λ (p : FlightPage). IsPageOfFile G v c.args.ino c.args.rec.now p) is c.requires.page in
-    let room = subst (λ (p : FlightPage). HasRoom G v c.args.ino c.args.rec.now p) is c.requires.room in
+    let room = subst (λ (p : FlightPage). HasRoomToInstall G v c.args.ino c.args.rec.now p) is c.requires.room in
     let volume = c.device_stands.ensures.volume in
     let names = c.device_stands.ensures.names in
     let at = c.in-Some.ensures.some in
@@ -39,9 +39,9 @@ returns g c =
     let v = c.args.core.now in
     let page : FlightPage = record { index = c.in-Some.index; at = c.in-Some.at; tag = c.in-Some.field-0-2 } in
     let is : page_in v c.args.worker c.args.place ≡ page = get_or_from_slice_get (of_worker v.flight c.args.worker).pages c.args.place page _ c.in-Some.ensures.some in
-    let hand = subst (λ (p : FlightPage). IsAtHand G v c.args.ino p.index c.args.rec.now) is c.requires.hand in
+    let hand = subst (λ (p : FlightPage). FilePointerIsResident G v c.args.ino p.index c.args.rec.now) is c.requires.hand in
     let of = subst (λ (p : FlightPage). IsPageOfFile G v c.args.ino c.args.rec.now p) is c.requires.page in
-    let room = subst (λ (p : FlightPage). HasRoom G v c.args.ino c.args.rec.now p) is c.requires.room in
+    let room = subst (λ (p : FlightPage). HasRoomToInstall G v c.args.ino c.args.rec.now p) is c.requires.room in
     let volume = c.device_stands.ensures.volume in
     let at = c.in-Some.ensures.some in
     let n = c.take_page.new in

@@ -9,7 +9,7 @@ use Rattle.nl_calls_steps.proofs.Going.{files_on}
 use Rattle.nl_calls_steps.proofs.LeavesTree.{reads_go}
 use Rattle.nl_calls_steps.proofs.OnlyReads.{file-on}
 use Rattle.nl_calls_steps.proofs.ReadCores.{reads-then}
-use Rattle.nl_calls_truncate.specs.Truncating.{IsCut, IsUncut}
+use Rattle.nl_calls_truncate.specs.Truncating.{IsCutInTree, IsUncut}
 use Rattle.nl_calls_truncate.proofs.CutReads.{cut_then, err_weaker, partial_read, room_for, uncut_read, uncut_then}
 use Rattle.nl_calls_truncate.proofs.truncating.cut_now.Goals as goal
 
@@ -100,7 +100,7 @@ returns-clause-cut g c =
     let h = c.hold_end.ensures in
     let was = c.in_ok-rec.rec in
     let is = c.cut_held.new.rec in
-    IfOk-weaker c.cut_held.result (λ files. CutsFileTo G c.args.worker c.args.ino c.args.size was is w x) (λ files. IsCut G c.args.worker c.args.ino c.args.size u x)
+    IfOk-weaker c.cut_held.result (λ files. CutsFileTo G c.args.worker c.args.ino c.args.size was is w x) (λ files. IsCutInTree G c.args.worker c.args.ino c.args.size u x)
     (λ files cut. cut_then G u w c.requires.core h.core e.volume h.stores (reads-then G u v e.volume e.same w h.same) c.args.worker c.args.ino c.args.size x c.requires.ready was is cut)
     c.cut_held.ensures.cut
 

@@ -4,9 +4,9 @@ use Rattle.nl_flight.specs.Flight.{InFlight, of_worker}
 use Rattle.nl_iface.specs.declared.counts.Counts.{Ghosts}
 use Rattle.nl_core.specs.Core.{IsCore}
 use Rattle.nl_core.specs.Dropping.{DropsLine}
-use Rattle.nl_core.specs.Goes.{Goes}
+use Rattle.nl_core.specs.Goes.{PreservesVolume}
 use Rattle.nl_core.specs.declared.state.Core.{Core}
-use Rattle.nl_calls_steps.specs.Calls.{OthersStay}
+use Rattle.nl_calls_steps.specs.Calls.{OtherLinesStay}
 use Rattle.nl_calls_steps.specs.declared.answer.Written.{Written}
 use Rattle.nl_calls_steps.proofs.WorkerLines.{others_dropped, own_dropped}
 use Rattle.nl_calls_steps.proofs.Going.{files_on}
@@ -16,10 +16,10 @@ use Rattle.nl_calls_truncate.proofs.CutReads.{some_on}
 use Rattle.nl_calls_truncate.proofs.truncating.truncate_call.Goals as goal
 
 module _ {D : Type 0} (g : Ghosts D) (u v : Core D) (worker : ℕ) (core : IsCore g u) (known : worker < 8) (dropped : DropsLine g worker u v) where
-  others : OthersStay worker u.flight v.flight
+  others : OtherLinesStay worker u.flight v.flight
   others w far = ap (λ (f : List InFlight). nameless_line (of_worker f w)) dropped.flight ∙ ap nameless_line (others_dropped u.flight worker core.flight known w far)
 
-  whole : (w : Core D) (path : List (List ℕ)) (size : ℕ) → Goes g 0 u v → (answer : Written) → Truncates g worker path size v w answer → Truncates g worker path size u w answer
+  whole : (w : Core D) (path : List (List ℕ)) (size : ℕ) → PreservesVolume g 0 u v → (answer : Written) → Truncates g worker path size v w answer → Truncates g worker path size u w answer
   whole w path size goes answer ends = truncates_before g u v w worker path size goes others answer ends
 
 pub truncate_alone-requires-clause-stamp : goal.truncate_alone-requires-clause-stamp

@@ -1,9 +1,9 @@
 use Rattle.std.proofs.Common.{◌+◌, ◌^◌, inr, Some, arith}
 use Rattle.std.proofs.lemmas.Result.{IfOk-weaker, err_from_is_err_and}
 use Rattle.nl_meta_running.specs.Reading.{stop_of}
-use Rattle.nl_core.specs.Goes.{Goes}
+use Rattle.nl_core.specs.Goes.{PreservesVolume}
 use Rattle.nl_core.proofs.Onward.{goes_more, goes_then}
-use Rattle.nl_calls_truncate.specs.Truncating.{CutsFile, IsCut, IsUncut}
+use Rattle.nl_calls_truncate.specs.Truncating.{CutsFile, IsCutInTree, IsUncut}
 use Rattle.nl_calls_truncate.proofs.CutPages.{can_cut_on}
 use Rattle.nl_calls_truncate.proofs.CutReads.{err_weaker, others_either, some_on}
 use Rattle.nl_calls_steps.proofs.Early.{within-early}
@@ -81,7 +81,7 @@ returns-clause-cut g c =
     let w = c.make_room.new.core in
     let x = c.cut_now.new.core in
     let room = c.make_room.ensures in
-    IfOk-weaker c.cut_now.result (λ files. IsCut G c.args.worker c.args.ino c.args.size w x) (λ files. CutsFile G (2 ^ 31) c.args.worker c.args.ino c.args.size u x)
+    IfOk-weaker c.cut_now.result (λ files. IsCutInTree G c.args.worker c.args.ino c.args.size w x) (λ files. CutsFile G (2 ^ 31) c.args.worker c.args.ino c.args.size u x)
     (λ files cut. record {
       between = w;
       core = room.core;
@@ -97,7 +97,7 @@ returns-clause-uncut g c =
     let v = c.put_cut.new.core in
     let w = c.make_room.new.core in
     let x = c.cut_now.new.core in
-    err_weaker c.cut_now.result (IsUncut G w x) (Goes G (2 ^ 31) u x)
+    err_weaker c.cut_now.result (IsUncut G w x) (PreservesVolume G (2 ^ 31) u x)
     (λ uncut. goes_more G (2 ^ 30 + 512) (2 ^ 31) u x (omega arith) (goes_then G u w x (2 ^ 30 + 512) 0 (goes_then G u v w (2 ^ 30) 512 c.put_cut.ensures.goes c.make_room.ensures.goes) uncut.goes)) c.cut_now.ensures.uncut
 
 pub returns-clause-others : goal.returns-clause-others

@@ -1,6 +1,6 @@
 use Rattle.std.proofs.Common.{◌≡◌, ℕ, ◌-◌, ◌*◌, ◌/◌, ◌<◌, ◌≤◌, ◌^◌, true}
 use Rattle.nl_core.specs.Core.{IsCore}
-use Rattle.nl_core.specs.Programming.{HasLine}
+use Rattle.nl_core.specs.Programming.{HasLineOrNone}
 use Rattle.nl_calls_steps.specs.Lines.{worker_pages}
 use Rattle.nl_calls_bytes.specs.InFlight.{AreOfCall, is_flying}
 use Rattle.nl_calls_bytes.specs.Ranges.{from_of}
@@ -15,6 +15,6 @@ invariant-indexes g l =
       from : from_of l.call / 4096 ≤ l.index;
       puts : PutsOn G (2 ^ 30 * (l.index - from_of l.call / 4096)) l.worker l.call l.initial.core l.core;
       pages : AreOfCall l.ino l.generation l.call (worker_pages l.core l.worker);
-      line : HasLine l.core.flight l.worker l.line;
+      line : HasLineOrNone l.core.flight l.worker l.line;
       has : (i : ℕ) → from_of l.call / 4096 ≤ i → i < l.index → is_flying (worker_pages l.core l.worker) i ≡ true;
     }

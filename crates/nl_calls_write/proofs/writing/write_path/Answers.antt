@@ -2,7 +2,7 @@ use Rattle.std.proofs.Common.{◌^◌, List, subst, arith, ℕ}
 use Rattle.nl_calls_write.specs.Calls.{ended_as}
 use Rattle.nl_calls_bytes.specs.Ranges.{path_of}
 use Rattle.nl_calls_steps.specs.declared.answer.Found.TheVariants as found
-use Rattle.nl_calls_steps.specs.Finding.{IsFound}
+use Rattle.nl_calls_steps.specs.Finding.{IsFoundFile}
 use Rattle.nl_calls_steps.specs.declared.answer.Found.{Found}
 use Rattle.nl_calls_steps.proofs.Going.{file_on, leads_on}
 use Rattle.nl_calls_write.proofs.Carried.{can_on, stamp_on}
@@ -18,8 +18,8 @@ write_file-requires g c =
     let e = c.find_file-found.ensures in
     let d = c.device_stands.ensures in
     let r = c.requires in
-    let at = subst (λ (f : Found). IsFound G u c.path_written.result.now f) c.in-File.is c.in-Ok.ensures.found in
-    let is = subst (λ (p : List (List ℕ)). IsFound G u p (found.File c.in-File.ino)) c.path_written.ensures at in
+    let at = subst (λ (f : Found). IsFoundFile G u c.path_written.result.now f) c.in-File.is c.in-Ok.ensures.found in
+    let is = subst (λ (p : List (List ℕ)). IsFoundFile G u p (found.File c.in-File.ino)) c.path_written.ensures at in
     let first = reads_first G u v r.core d.volume e.core.formed d.pages e.same in
     record {
       core = e.core;
@@ -42,7 +42,7 @@ pub returns-in-No-clause-ends : goal.returns-in-No-clause-ends
 returns-in-No-clause-ends g c =
     let G = g.D.Counts in
     let d = c.device_stands.ensures in
-    let at = subst (λ (f : Found). IsFound G c.args.core.now c.path_written.result.now f) c.in-No.is c.in-Ok.ensures.found in
+    let at = subst (λ (f : Found). IsFoundFile G c.args.core.now c.path_written.result.now f) c.in-No.is c.in-Ok.ensures.found in
     path_refused G c.args.worker c.args.call.now c.args.core.now c.find_file-found.new.core c.requires.core d.volume c.find_file-found.ensures.core.formed d.pages c.find_file-found.ensures.same (2 ^ 40) c.requires.writing c.in-No.refusal c.path_written.result.now c.path_written.ensures at
 
 pub returns-in-Err-clause-ends : goal.returns-in-Err-clause-ends

@@ -1,6 +1,6 @@
 use Rattle.std.proofs.Common.{[], List, refl, subst, ℕ}
 use Rattle.nl_field.specs.CrashStates.{Rose}
-use Rattle.nl_io.specs.Streams.{Writes}
+use Rattle.nl_io.specs.Streams.{WritesStream}
 use Rattle.nl_print.specs.Texts.{dir_text, file_text}
 use Rattle.nl_volume_list.specs.declared.item.TreeItem.TheVariants as item
 use Rattle.nl_cmd_print.proofs.Ending.{cause_line, reads_line, shows_line}
@@ -14,7 +14,7 @@ returns-in-Dir-clause-shows g c =
     let old = g.K.Sink.taken c.args.sink.now in
     let new = g.K.Sink.taken c.dir_line.new.sink in
     shows_line G c.args.core.now c.args.walk.now walk old new (walk.path, item.Dir c.in-Dir.entries) c.in-Dir.ensures.gives c.dir_line.result c.ended_by.result c.ended_by.ensures
-    (subst (λ (p : List (List ℕ)). Writes old new c.dir_line.result (dir_text p c.in-Dir.entries)) c.path.ensures c.dir_line.ensures.text)
+    (subst (λ (p : List (List ℕ)). WritesStream old new c.dir_line.result (dir_text p c.in-Dir.entries)) c.path.ensures c.dir_line.ensures.text)
 
 pub returns-in-Dir-clause-reads : goal.returns-in-Dir-clause-reads
 returns-in-Dir-clause-reads g c =
@@ -32,7 +32,7 @@ returns-in-File-clause-shows g c =
     let old = g.K.Sink.taken c.args.sink.now in
     let new = g.K.Sink.taken c.file_line.new.sink in
     shows_line G c.args.core.now c.args.walk.now walk old new (walk.path, item.File c.in-File.size c.in-File.pages) c.in-File.ensures.gives c.file_line.result c.ended_by-in-File.result
-    c.ended_by-in-File.ensures (subst (λ (p : List (List ℕ)). Writes old new c.file_line.result (file_text p c.in-File.size c.in-File.pages)) c.path-in-File.ensures c.file_line.ensures.text)
+    c.ended_by-in-File.ensures (subst (λ (p : List (List ℕ)). WritesStream old new c.file_line.result (file_text p c.in-File.size c.in-File.pages)) c.path-in-File.ensures c.file_line.ensures.text)
 
 pub returns-in-File-clause-reads : goal.returns-in-File-clause-reads
 returns-in-File-clause-reads g c =

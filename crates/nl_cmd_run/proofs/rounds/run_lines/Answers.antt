@@ -3,8 +3,8 @@ use Rattle.nl_device.specs.Medium.{medium_of}
 use Rattle.nl_device.specs.contracts.counts.DeviceCounts.TheImpl.{ghosts}
 use Rattle.nl_field.specs.Page.{Image}
 use Rattle.nl_spec_headline.specs.Streams.{medium}
-use Rattle.nl_spec_image.specs.Crash.{StopsSafely}
-use Rattle.nl_spec_image.specs.Stands.{SoundAs}
+use Rattle.nl_spec_image.specs.Crash.{CrashesSafely}
+use Rattle.nl_spec_image.specs.Stands.{ConsistentAs}
 use Rattle.nl_tree.specs.Calls.{IsLine}
 use Rattle.nl_volume.specs.declared.volume.Volume.{Volume}
 use Rattle.nl_cmd_course.proofs.Lists.{holds_of}
@@ -20,7 +20,7 @@ run_opened-requires-clause-opened g c = λ lifetimes outlives.
 pub run_opened-requires-clause-stands : goal.run_opened-requires-clause-stands
 run_opened-requires-clause-stands g c = λ lifetimes outlives tree sound.
     c.in-Ok.ensures.stands tree c.args.lines.now (λ l has. holds_of IsLine c.args.lines.now l c.as_slice-lines.ensures.each.each has)
-    (λ told. subst (λ (i : Image). SoundAs i c.in-Ok.volume.core.count tree) (c.in-Ok.ensures.only_read.same_contents told) (sound told))
+    (λ told. subst (λ (i : Image). ConsistentAs i c.in-Ok.volume.core.count tree) (c.in-Ok.ensures.only_read.same_contents told) (sound told))
 
 -- the lines were run: what is said from the opened medium on is said from the medium on
 pub returns-in-Ok-run_opened-clause-ran : goal.returns-in-Ok-run_opened-clause-ran
@@ -35,15 +35,15 @@ returns-in-Ok-run_opened-clause-ran g c =
       r.0,
       r.1,
       ran_from m.tells c.args.lines.now
-          (StopsSafely SoundAs (λ t i. m.left opened t i) (λ t i. m.left end t i) (m.clock opened) (m.clock end))
-          (StopsSafely SoundAs (λ t i. m.left media t i) (λ t i. m.left end t i) (m.clock media) (m.clock end))
+          (CrashesSafely ConsistentAs (λ t i. m.left opened t i) (λ t i. m.left end t i) (m.clock opened) (m.clock end))
+          (CrashesSafely ConsistentAs (λ t i. m.left media t i) (λ t i. m.left end t i) (m.clock media) (m.clock end))
           (medium (m.geometry media) (m.contents media) (m.clock media) (m.read_faults media) (m.write_faults media))
           (medium (m.geometry opened) (m.contents opened) (m.clock opened) (m.read_faults opened) (m.write_faults opened))
           (medium (m.geometry end) (m.contents end) (m.clock end) (m.read_faults end) (m.write_faults end))
           c.run_opened.new.tables.answers.rows ran.lost ran.worn ran.charges r.0 (λ told. only.same_contents told)
           (λ i. record { clock = only.same_clock i; read_faults = c.in-Ok.ensures.no_fault i; write_faults = only.same_write_faults i })
           (λ told run safe.
-          stops_from SoundAs (λ t i. m.left media t i) (λ t i. m.left opened t i) (λ t i. m.left end t i) (m.clock opened) (m.clock media) (m.clock end) run (λ t i l. only.no_more_left told t i l)
+          stops_from ConsistentAs (λ t i. m.left media t i) (λ t i. m.left opened t i) (λ t i. m.left end t i) (m.clock opened) (m.clock media) (m.clock end) run (λ t i l. only.no_more_left told t i l)
           (sym only.same_clock) safe)
           r.2,
     )
@@ -56,7 +56,7 @@ returns-in-Ok-run_opened-clause-rows g c =
     let end = ran.media in
     let r = c.in-Ok-run_opened.ensures.ran in
     as_many_rows m.tells c.args.lines.now
-    (StopsSafely SoundAs (λ t i. m.left opened t i) (λ t i. m.left end t i) (m.clock opened) (m.clock end))
+    (CrashesSafely ConsistentAs (λ t i. m.left opened t i) (λ t i. m.left end t i) (m.clock opened) (m.clock end))
     (medium (m.geometry opened) (m.contents opened) (m.clock opened) (m.read_faults opened) (m.write_faults opened))
     (medium (m.geometry end) (m.contents end) (m.clock end) (m.read_faults end) (m.write_faults end))
     c.run_opened.new.tables.answers.rows ran.lost ran.worn ran.charges r.0 r.2

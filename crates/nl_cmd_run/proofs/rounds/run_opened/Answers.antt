@@ -3,13 +3,13 @@ use Rattle.nl_calls.specs.Answering.{pages_of_files}
 use Rattle.nl_device.specs.Medium.{medium_of}
 use Rattle.nl_device.specs.contracts.counts.DeviceCounts.TheImpl.{ghosts}
 use Rattle.nl_field.specs.CrashStates.{top}
-use Rattle.nl_spec_image.specs.Crash.{StopsSafely}
-use Rattle.nl_spec_image.specs.Stands.{SoundAs}
+use Rattle.nl_spec_image.specs.Crash.{CrashesSafely}
+use Rattle.nl_spec_image.specs.Stands.{ConsistentAs}
 use Rattle.nl_turns.specs.History.{Opening}
 use Rattle.nl_turns.specs.Seat.{SeatState, entries}
 use Rattle.nl_spec_headline.specs.Streams.{medium}
 use Rattle.nl_volume.specs.Opening.{opening_of}
-use Rattle.nl_volume_stage.specs.Standing.{StandsFor}
+use Rattle.nl_volume_stage.specs.Standing.{RepresentsHistory}
 use Rattle.nl_volume.specs.declared.volume.Volume.{Volume}
 use Rattle.nl_cmd_course.specs.Rounds.{course_of}
 use Rattle.nl_cmd_run.proofs.Running.{rounds_and_end}
@@ -46,7 +46,7 @@ returns-clause-ran g c =
     let e = c.close-closed.ensures in
     let o = opening_of G v0 opening.0 c.args.lines.now in
     let h = entries after.seen in
-    let stands = subst (λ (x : Volume _ × Opening). StandsFor G x.0.core x.1 h last.core last.done × (last.files ≡ pages_of_files G last.core))
+    let stands = subst (λ (x : Volume _ × Opening). RepresentsHistory G x.0.core x.1 h last.core last.done × (last.files ≡ pages_of_files G last.core))
     (λ k. (c.in-Ok.ensures.lock.2 k, (ap (λ (z : SeatState). z.opening) ran.same ∙ opening.2) k)) c.close-volume.ensures in
     let told = c.charges_of-charges.ensures in
     let clock = c.clock-clock.ensures in
@@ -58,7 +58,7 @@ returns-clause-ran g c =
       course_of o rows,
       c.calls-count.ensures,
       rounds_and_end G v0 v last.done opening.0 c.args.lines.now c.in-Ok.made.1 after rows opening.2 c.as_slice-lines.ensures.each ran stands.0
-          (StopsSafely SoundAs (λ m i. N.left old m i) (λ m i. N.left media m i) (N.clock old) (N.clock media))
+          (CrashesSafely ConsistentAs (λ m i. N.left old m i) (λ m i. N.left media m i) (N.clock old) (N.clock media))
           (medium (N.geometry old) (N.contents old) (N.clock old) (N.read_faults old) (N.write_faults old)) (medium (N.geometry media) (N.contents media) (N.clock media) (N.read_faults media) (N.write_faults media))
           c.if-closed.result c.close-closed.result.worn c.charges_of-charges.result refl e.counts few writes c.requires.opened opening.1
           (λ young. e.stops c.args.volume o h stands young)

@@ -8,7 +8,7 @@ use Rattle.nl_spec_headline.specs.Streams.{medium, stream}
 use Rattle.nl_print.specs.Texts.{report_text}
 use Rattle.nl_tree.specs.Charges.{data_charge, meta_charge, node_charge}
 use Rattle.nl_volume.specs.Opened.{medium_in}
-use Rattle.nl_cmd_view.specs.Looking.{LookEnds, Reports}
+use Rattle.nl_cmd_view.specs.Looking.{LookEnds, ReportsImage}
 use Rattle.nl_cmd_view.proofs.Seen.{no_more_left, status_since, untouched_by, was_not_seen, was_seen}
 use Rattle.nl_cmd_view.proofs.Viewed.{runs_as}
 use Rattle.nl_cmd_view.proofs.reports.report.Goals as goal
@@ -22,7 +22,7 @@ returns-in-Err-clause-ended g c =
     let old = stream (k.taken c.args.sink.now) (k.faults c.args.sink.now) in
     let new = stream (k.taken end.new.sink) (k.faults end.new.sink) in
     was_not_seen m.tells m.geometry m.contents m.clock m.read_faults m.write_faults m.left c.args.media (medium_in c.in-Err.why) end.result.media c.in-Err.ensures.left end.ensures.media
-    Reports old new end.result.order.items end.result.syncs.items end.result.status end.ensures.order end.ensures.syncs (end.ensures.ended c.args.media c.in-Err.ensures.why)
+    ReportsImage old new end.result.order.items end.result.syncs.items end.result.status end.ensures.order end.ensures.syncs (end.ensures.ended c.args.media c.in-Err.ensures.why)
 
 pub returns-in-Err-clause-left : goal.returns-in-Err-clause-left
 returns-in-Err-clause-left g c =
@@ -64,7 +64,7 @@ returns-clause-ended g c =
       no_syncs = end.ensures.syncs;
       later = print.ensures.never_falls;
     })
-    Reports print.result reports.text
+    ReportsImage print.result reports.text
     (λ told.
     let w = runs_as G v opened.tree c.in-Ok.volume.done stands told in
     let is = opened.opens told in
@@ -80,7 +80,7 @@ returns-clause-ended g c =
       text_is = subst (λ (text : List ℕ). reports.text ≡ text) same_text (reports.of_tree w.0 opened.tree w.1);
     })
     (ap m.read_faults same ∙ e.no_fault) reports.taken print.ensures.cause (status_since before.result.reads before.result.writes end.result.status print.result start middle before.ensures end.ensures.status) in
-    subst (λ (x : g.row.M.Denot). LookEnds m.tells Reports old new start (medium (m.geometry x) (m.contents x) (m.clock x) (m.read_faults x) (m.write_faults x)) end.result.order.items end.result.syncs.items end.result.status)
+    subst (λ (x : g.row.M.Denot). LookEnds m.tells ReportsImage old new start (medium (m.geometry x) (m.contents x) (m.clock x) (m.read_faults x) (m.write_faults x)) end.result.order.items end.result.syncs.items end.result.status)
     (sym end.ensures.media) told_by
 
 pub returns-clause-left : goal.returns-clause-left

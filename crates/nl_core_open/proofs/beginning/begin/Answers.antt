@@ -14,7 +14,7 @@ use Rattle.nl_recover.specs.Retaining.{pointers_in}
 use Rattle.nl_core.specs.Core.{IsCore}
 use Rattle.nl_core.specs.declared.state.Core.{Core}
 use Rattle.nl_meta.specs.Consistent.{page_on}
-use Rattle.nl_core.specs.Trees.{CoreStands}
+use Rattle.nl_core.specs.Trees.{CoreRepresents}
 use Rattle.nl_core_open.specs.Beginning.{stopped_by}
 use Rattle.nl_core_open.proofs.Begun.{as_many_pages, begun_core, begun_stands, made}
 use Rattle.nl_core_open.proofs.OneKept.{one_kept}
@@ -70,7 +70,7 @@ returns-clause-stands g c tells image tree over =
     let e = c.retain.ensures in
     let clock : G.clock s ≡ c.clock-moment.result = sym (c.clock-moment.ensures ∙ e.medium.clock) in
     let stopped : stopped_by (G.write_faults s) ≡ c.stopped_by-stopped.result = sym (c.stopped_by-stopped.ensures ∙ ap stopped_by (c.write_faults.ensures ∙ e.medium.write_faults)) in
-    subst (λ (x : Core (Device g.row.M.Denot)). CoreStands G x (page_on image) (all_at w.count tree))
+    subst (λ (x : Core (Device g.row.M.Denot)). CoreRepresents G x (page_on image) (all_at w.count tree))
     (made G s t seen w c.args.freeing t c.args.shape c.args.flight c.clock-moment.result c.stopped_by-stopped.result c.requires.shape c.requires.flight clock stopped)
     (begun_stands G s t seen w c.args.freeing c.requires.can c.requires.walked c.device_stands.ensures.volume
     (λ p page has. found_is_seen s.shape seen p page (subst (λ (k : KeptPages). Has (found_by_number k) (p, page)) c.requires.can.kept has))

@@ -13,8 +13,8 @@ use Rattle.nl_iface.specs.Stored.{stored_in}
 use Rattle.nl_meta_running.specs.Running.{stored_on}
 use Rattle.nl_meta_running.proofs.Holds.{bounds-of}
 use Rattle.nl_spec_commits.specs.Trees.{all_at}
-use Rattle.nl_core.specs.Trees.{CoreStands}
-use Rattle.nl_spec_image.specs.Stands.{SoundAs}
+use Rattle.nl_core.specs.Trees.{CoreRepresents}
+use Rattle.nl_spec_image.specs.Stands.{ConsistentAs}
 use Rattle.nl_recover.proofs.Imaged.{lists_readable}
 use Rattle.nl_core_open.specs.Figures.{greatest_seen, least_seen}
 use Rattle.nl_core_open.proofs.CanOpen.{can_begin}
@@ -110,8 +110,8 @@ returns-in-Ok-clause-stands g c = λ tells.
     let count : w.count ≡ v.count = sym c.begin.ensures.begins.counts.0 in
     let it = over G s d image t tells (is tells) (e.map tells) (listed tells) w r.device c.in-Ready-recover.ensures.walked (ap stored_in e.kept.same_contents) tree.0 tree.1 in (
       tree.0,
-      subst (λ n. SoundAs image n tree.0) count tree.1,
-      subst (λ n. CoreStands G v (page_on image) (all_at n tree.0)) count (c.begin.ensures.stands tells image tree.0 it),
+      subst (λ n. ConsistentAs image n tree.0) count tree.1,
+      subst (λ n. CoreRepresents G v (page_on image) (all_at n tree.0)) count (c.begin.ensures.stands tells image tree.0 it),
     )
 
 pub returns-in-Ok-clause-number : goal.returns-in-Ok-clause-number

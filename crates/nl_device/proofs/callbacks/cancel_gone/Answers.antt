@@ -6,7 +6,7 @@ use Rattle.nl_callbacks.specs.Pending.{PendingTable, beside_stamp, entry_at}
 use Rattle.nl_callbacks.specs.declared.entry.Entry.{Entry}
 use Rattle.nl_iface.specs.Names.{Has}
 use Rattle.nl_iface.specs.declared.Callback.{Callback}
-use Rattle.nl_device.specs.Callbacks.{NamesDiffer, callbacks_of}
+use Rattle.nl_device.specs.Callbacks.{CallbackNamesDiffer, callbacks_of}
 use Rattle.nl_device.specs.State.{has_at}
 use Rattle.nl_device.proofs.Lists.{remove_has}
 use Rattle.nl_device.proofs.callbacks.cancel_gone.Goals as goal
@@ -27,7 +27,7 @@ each-preserved c =
     let less = length-remove t.callbacks e.at e.within in
     record {
       numbers = c.cancel.ensures.table;
-      names = subst NamesDiffer (sym gone) (λ x y has other. k.names x y (remove_has t.callbacks e.at x e.within has) (remove_has t.callbacks e.at y e.within other));
+      names = subst CallbackNamesDiffer (sym gone) (λ x y has other. k.names x y (remove_has t.callbacks e.at x e.within has) (remove_has t.callbacks e.at y e.within other));
       posted = ap (λ (x : PendingTable). x.posted) e.gone ∙ k.posted;
       beside = ap (λ (l : List Entry). beside_stamp l c.args.stamp) gone
           ∙ (filter_remove (λ x. not (x.callback.stamp == c.args.stamp)) t.callbacks e.at e.within (ap (λ (x : Callback). not (x.stamp == c.args.stamp)) same ∙ ap not (eq-eqb c.in-Some.callback.stamp c.args.stamp c.in-Some.ensures.stamp)) ∙ k.beside);

@@ -1,7 +1,7 @@
 use Rattle.std.proofs.Common.{◌≡◌, ◌≢◌, ℕ, sym, subst, true}
 use Rattle.nl_meta.specs.Pages.{has_room, page_of}
 use Rattle.nl_indirect.specs.Ranges.{HasRange, address_of, slot_of}
-use Rattle.nl_indirect.specs.Truncating.{Truncates}
+use Rattle.nl_indirect.specs.Truncating.{TruncatesPointers}
 use Rattle.nl_files.proofs.CutToSize.{Places, cuts-file, not-placed, placed, range-then, room-then}
 use Rattle.nl_files.proofs.cutting.cut.Goals as goal
 use Rattle.nl_files.proofs.cutting.cut.Goals.{in-Some, in_default}
@@ -38,6 +38,6 @@ returns-clause-cut c =
       | in_default w ↦ not w.in_default.is w.rec-is w.meta-is r.file r.range r.room
     ]
     in
-    let cuts = subst (λ (from : ℕ). Truncates from c.match-partial.rec c.truncate.new.rec c.match-partial.meta c.truncate.new.meta) c.div_ceil.ensures c.truncate.ensures in
+    let cuts = subst (λ (from : ℕ). TruncatesPointers from c.match-partial.rec c.truncate.new.rec c.match-partial.meta c.truncate.new.meta) c.div_ceil.ensures c.truncate.ensures in
     cuts-file c.args.size c.args.partial c.args.rec.now c.match-partial.rec c.truncate.new.rec c.args.meta.now c.match-partial.meta c.truncate.new.meta is cuts
     c.args.nodes.now c.give_back.new.nodes c.requires.size c.give_back.ensures

@@ -4,7 +4,7 @@ use Rattle.nl_field.specs.declared.pointer.Tag.{Tag}
 use Rattle.nl_iface.specs.declared.counts.Counts.{Ghosts}
 use Rattle.nl_inode.specs.Nodes.{page_of_node}
 use Rattle.nl_meta.specs.Pages.{Pages, page_of}
-use Rattle.nl_meta_running.specs.Running.{RunsOn, running_on}
+use Rattle.nl_meta_running.specs.Running.{PreservesRunning, running_on}
 use Rattle.nl_meta_running.proofs.Holds.{bounds-of}
 use Rattle.nl_meta_running.proofs.Kept.{kept-then, runs-then}
 use Rattle.nl_handler.specs.Handling.{TagsFile}
@@ -36,7 +36,7 @@ returns-in-Err-hold_range-clause-kept g c =
 
 pub returns-in-Err-hold_range-clause-reads : goal.returns-in-Err-hold_range-clause-reads
 returns-in-Err-hold_range-clause-reads g c =
-    let on : RunsOn g.D.Counts c.args.device.now c.args.meta.now c.file_at.new.device c.file_at.new.meta = c.in-Ok-Some.ensures.kept in
+    let on : PreservesRunning g.D.Counts c.args.device.now c.args.meta.now c.file_at.new.device c.file_at.new.meta = c.in-Ok-Some.ensures.kept in
     reads-over g.D.Counts c.args.device.now c.file_at.new.device c.hold_range.new.device on.reads c.in-Ok-Some.ensures.reads (Some c.in-Err-hold_range.stop) c.in-Err-hold_range.ensures.reads
 
 pub returns-then-has_stamp-clause-kept : goal.returns-then-has_stamp-clause-kept
@@ -54,7 +54,7 @@ returns-then-has_stamp-clause-found g c =
     let s = c.args.device.now in
     let b = bounds-of (g.D.Counts.shape s) (g.met.D.VirtualPages.numbers s c.requires.formed) in
     let file = if-some (NoFile g.D.Counts s c.args.meta.now c.args.tag.now) (TagsFile (g.D.Counts.shape s) (running_on g.D.Counts s c.args.meta.now) c.args.tag.now) c.in-Ok-Some.field-0 c.in-Ok-Some.rec c.in-Ok-Some.field-0-is c.in-Ok-Some.ensures.file in
-    let second : RunsOn g.D.Counts c.file_at.new.device c.file_at.new.meta c.hold_range.new.device c.hold_range.new.meta = c.in-Ok.ensures.kept in
+    let second : PreservesRunning g.D.Counts c.file_at.new.device c.file_at.new.meta c.hold_range.new.device c.hold_range.new.meta = c.in-Ok.ensures.kept in
     let on = kept-then g.D.Counts s c.args.meta.now c.file_at.new.device c.file_at.new.meta b c.in-Ok-Some.ensures.kept c.hold_range.new.device c.hold_range.new.meta second in
     let node : IsSome (page_of c.hold_range.new.meta (page_of_node c.args.tag.now.ino)) =
     ap is_some (second.stays (page_of_node c.args.tag.now.ino) c.in-Ok-Some.ensures.there) ∙ c.in-Ok-Some.ensures.there in (

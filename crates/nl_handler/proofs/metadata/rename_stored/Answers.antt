@@ -5,10 +5,10 @@ use Rattle.nl_field.specs.declared.inode.InodeRec.{InodeRec}
 use Rattle.nl_field.specs.declared.pointer.Tag.{Tag}
 use Rattle.nl_iface.specs.declared.counts.Counts.{Ghosts}
 use Rattle.nl_meta.specs.Pages.{Pages, has_room}
-use Rattle.nl_meta_running.specs.Running.{Runs, running_on}
+use Rattle.nl_meta_running.specs.Running.{RunningIsRight, running_on}
 use Rattle.nl_meta_running.proofs.Holds.{bounds-of}
 use Rattle.nl_meta_running.proofs.Kept.{runs-then}
-use Rattle.nl_handler.specs.Changing.{IsAtHand}
+use Rattle.nl_handler.specs.Changing.{TaggedPointerIsResident}
 use Rattle.nl_handler.specs.Handling.{HasTagged, HoldsTagged, page_holding}
 use Rattle.nl_handler.proofs.Found.{if-some}
 use Rattle.nl_handler.proofs.Physical.{called-physical}
@@ -17,7 +17,7 @@ use Rattle.nl_handler.proofs.metadata.rename_stored.Goals as goal
 
 -- what is known of the record that is found
 abbrev Known : {D : Type 0} → Ghosts D → D → Pages → Pages → Tag → ℕ → InodeRec → Type 0
-Known g s p q tag stamp rec = HasTagged (g.shape s) (running_on g s p) tag stamp rec × IsAtHand q tag rec × IsTrue (is_stamp stamp)
+Known g s p q tag stamp rec = HasTagged (g.shape s) (running_on g s p) tag stamp rec × TaggedPointerIsResident q tag rec × IsTrue (is_stamp stamp)
 
 pub returns-then-rename-clause-runs : goal.returns-then-rename-clause-runs
 returns-then-rename-clause-runs g c =
@@ -41,7 +41,7 @@ returns-then-rename-clause-stored g c =
 pub returns-else-rename-clause-runs : goal.returns-else-rename-clause-runs
 returns-else-rename-clause-runs g c =
     let s = c.args.device.now in
-    subst (λ (r : Pages). Runs g.D.Counts c.find.new.device r) (sym (c.rename.ensures.refused c.if-rename.false))
+    subst (λ (r : Pages). RunningIsRight g.D.Counts c.find.new.device r) (sym (c.rename.ensures.refused c.if-rename.false))
     (runs-then g.D.Counts s c.args.meta.now c.find.new.device c.find.new.meta (bounds-of (g.D.Counts.shape s) (g.met.D.VirtualPages.numbers s c.requires.formed)) c.in-Ok-Some.ensures.kept c.requires.runs)
 
 pub returns-in-Ok-None-clause-runs : goal.returns-in-Ok-None-clause-runs

@@ -4,7 +4,7 @@ use Rattle.nl_field.specs.Pointers.{indirect_of}
 use Rattle.nl_meta.specs.Pages.{Pages, page_of}
 use Rattle.nl_meta.proofs.Lists.{some_in}
 use Rattle.nl_indirect.specs.Ranges.{HasRange, range_of, slot_of}
-use Rattle.nl_indirect.specs.Truncating.{CutsSlots, StaysBefore, Truncates}
+use Rattle.nl_indirect.specs.Truncating.{CutsSlots, StaysBefore, TruncatesPointers}
 use Rattle.nl_indirect.proofs.Pointing.{address-range}
 use Rattle.nl_indirect.proofs.Spelled.{Spells, spells}
 use Rattle.nl_indirect.proofs.Truncated.{cut-ranges, truncated-node, truncated-whole, truncated-within}
@@ -12,7 +12,7 @@ use Rattle.nl_indirect.proofs.truncating.truncate.Goals as goal
 
 pub returns-then-from-lt-DIRECT : goal.returns-then-from-lt-DIRECT
 returns-then-from-lt-DIRECT c =
-    subst (λ (is : InodeRec). Truncates c.args.from c.args.rec.now is c.args.meta.now c.args.meta.now)
+    subst (λ (is : InodeRec). TruncatesPointers c.args.from c.args.rec.now is c.args.meta.now c.args.meta.now)
     (sym (c.drop_ranges.ensures ∙ ap (λ (r : InodeRec). cut-ranges r 0) c.drop_direct.ensures))
     (truncated-node c.args.rec.now c.requires.file c.args.from c.args.meta.now c.if-from-lt-DIRECT.true)
 
@@ -34,12 +34,12 @@ returns-then-stays c =
     let there = ap (page_of c.args.meta.now) (sym at) ∙ both.1.there in
     let cut = c.cut.ensures in
     let bytes-are = ap (λ (o : Option (List ℕ)). unwrap_or o []) there in
-    subst (λ (is : InodeRec). Truncates c.args.from c.args.rec.now is c.args.meta.now c.cut.new.meta) (sym c.drop_ranges-then-stays.ensures)
-    (subst (λ (pages : Pages). Truncates c.args.from c.args.rec.now (cut-ranges c.args.rec.now (range_of c.args.from + 1)) c.args.meta.now pages) (sym cut.2)
+    subst (λ (is : InodeRec). TruncatesPointers c.args.from c.args.rec.now is c.args.meta.now c.cut.new.meta) (sym c.drop_ranges-then-stays.ensures)
+    (subst (λ (pages : Pages). TruncatesPointers c.args.from c.args.rec.now (cut-ranges c.args.rec.now (range_of c.args.from + 1)) c.args.meta.now pages) (sym cut.2)
     (truncated-within c.args.rec.now c.requires.file c.args.from c.args.meta.now c.if-from-lt-DIRECT.false c.requires.within both.0 (λ z. both.1.not_zero (at ∙ z)) both.1.bytes there
     (spelled c.args.meta.now c.args.rec.now c.args.from (c.requires.range both.0) both.1) both.1.before cut.0 (subst (λ (l : List ℕ). CutsSlots (slot_of c.args.from) l cut.0) bytes-are cut.1)))
 
 pub returns-else-stays : goal.returns-else-stays
 returns-else-stays c =
-    subst (λ (is : InodeRec). Truncates c.args.from c.args.rec.now is c.args.meta.now c.args.meta.now) (sym c.drop_ranges-else-stays.ensures)
+    subst (λ (is : InodeRec). TruncatesPointers c.args.from c.args.rec.now is c.args.meta.now c.args.meta.now) (sym c.drop_ranges-else-stays.ensures)
     (truncated-whole c.args.rec.now c.requires.file c.args.from c.args.meta.now c.if-from-lt-DIRECT.false c.requires.within (c.stays.ensures.none c.if-stays.false))

@@ -1,7 +1,7 @@
 use Rattle.std.proofs.Common.{refl, sym, subst}
 use Rattle.nl_meta.specs.Pages.{Pages}
 use Rattle.nl_journal_commit.specs.Counting.{with_frozen}
-use Rattle.nl_journal_commit.specs.Standing.{IsJournaled, StandsOn}
+use Rattle.nl_journal_commit.specs.Standing.{IsJournaled, PreservesGraph}
 use Rattle.nl_journal_commit.proofs.Standing.{freezing_stands, stands_then}
 use Rattle.nl_journal_commit.proofs.changes.commit_changes.Goals as goal
 
@@ -24,4 +24,4 @@ returns-clause-stands g c =
     let now = c.complete.new.meta in
     let volume = g.met.D.VirtualPages.numbers s c.requires.formed in
     let frozen = freezing_stands G s p pages volume c.requires.journaled c.stands.ensures c.requires.changes in
-    stands_then G s s t p r pages (with_frozen pages) now volume refl frozen (subst (λ (n : Pages). StandsOn G s n t r now) c.freeze.ensures c.complete.ensures.stands)
+    stands_then G s s t p r pages (with_frozen pages) now volume refl frozen (subst (λ (n : Pages). PreservesGraph G s n t r now) c.freeze.ensures c.complete.ensures.stands)

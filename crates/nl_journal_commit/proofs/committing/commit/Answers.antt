@@ -3,7 +3,7 @@ use Rattle.std.specs.List.{list_any}
 use Rattle.std.specs.Prelude.{⊤}
 use Rattle.nl_field.specs.CrashStates.{Turns}
 use Rattle.nl_field.specs.declared.answers.VirtualWrite.TheVariants as write
-use Rattle.nl_iface.specs.Calls.{Leaves}
+use Rattle.nl_iface.specs.Calls.{CrashStatesHave}
 use Rattle.nl_meta.specs.Pages.{Frozen, Pages, dirty_pages, none_frozen}
 use Rattle.nl_journal.specs.Committing.{committed_on, finished_on}
 use Rattle.nl_journal.specs.Left.{FinishWrites, LeavesEither, LeavesOne}
@@ -14,9 +14,9 @@ use Rattle.nl_journal.proofs.CommitSteps.{begun_header, begun_none, commit_faile
 use Rattle.nl_journal.proofs.FinishSteps.{all_finished}
 use Rattle.nl_journal.proofs.Passing.{counted_then, none_failed, passes_most, passes_then}
 use Rattle.nl_journal_commit.specs.Committing.{ChangesAt, EarlierAt}
-use Rattle.nl_journal_commit.specs.Completing.{Completes, DecidesAt, IsDecided, StaysOpen}
+use Rattle.nl_journal_commit.specs.Completing.{Completes, DecidesAt, IsDecided, StillAwaitsCommitPage}
 use Rattle.nl_journal_commit.specs.Counting.{record_of, with_count, with_frozen}
-use Rattle.nl_journal_commit.specs.Standing.{IsJournaled, StandsOn}
+use Rattle.nl_journal_commit.specs.Standing.{IsJournaled, PreservesGraph}
 use Rattle.nl_field.specs.SuperPage.{super_bytes}
 use Rattle.nl_journal_commit.proofs.CommittingSteps.{changes_stops, done_later, earlier_by, earlier_stops, first_is_dirty, frozen_none, if_some, is_decided_by, stopped_stops}
 use Rattle.nl_journal_commit.proofs.Paid.{paid_then, part_paid}
@@ -89,7 +89,7 @@ returns-in-Done g c =
       formed = f.formed;
       stands =
           let stored = super_page_stands G s p c.args.meta.now (super_bytes (record_of c.args.shape.now c.args.count)) volume c.requires.journaled in
-          let firsts = stands_then G s s m p q c.args.meta.now pages mid volume refl stored (subst (λ (n : Pages). StandsOn G s n m q mid) is e.stands) in
+          let firsts = stands_then G s s m p q c.args.meta.now pages mid volume refl stored (subst (λ (n : Pages). PreservesGraph G s n m q mid) is e.stands) in
           stands_then G s m t q r c.args.meta.now mid now volume e.passes.named.same_shape firsts f.stands;
       commits = record {
         in_memory = record {
@@ -132,16 +132,16 @@ returns-in-Done g c =
             (part_paid G m t q r (with_frozen mid) now.frozen f.clock (subst (λ (x : Phase). IsPhase x (length mid.dirty)) (sym ends.0) tt)
             f.finishes.number f.finishes.begun_stays c.commit_changes-rest.result.decided f.decided);
       };
-      earlier = if_some (StaysOpen p q c.store_count.new.meta.frozen mid.frozen) (DecidesAt G s m p q c.store_count.new.meta) (EarlierAt G s t p r pages now) c.complete-first.result.decided e.decided (λ at d. record {
+      earlier = if_some (StillAwaitsCommitPage p q c.store_count.new.meta.frozen mid.frozen) (DecidesAt G s m p q c.store_count.new.meta) (EarlierAt G s t p r pages now) c.complete-first.result.decided e.decided (λ at d. record {
         later = d.later;
         from = d.from;
         to = let a = d.to in let b = f.clock in omega (arith, a, b);
         stops = λ tells numbers.
             earlier_stops G s m t p q r pages mid now same (fewer tells) ends.0 ends.1 running dirty D1 c.in-Done.is (wrote tells numbers) over at
-            (subst (λ (n : Pages). HasNumber p (length n.frozen.addresses) → Leaves G (Turns ⊤ at (LeavesEither G s (committed_on G s) (finished_on G s p n)) (LeavesOne G s (finished_on G s p n))) s m) is (d.stops tells) (number_p numbers))
+            (subst (λ (n : Pages). HasNumber p (length n.frozen.addresses) → CrashStatesHave G (Turns ⊤ at (LeavesEither G s (committed_on G s) (finished_on G s p n)) (LeavesOne G s (finished_on G s p n))) s m) is (d.stops tells) (number_p numbers))
             (f.writes tells (number_q numbers)).left.stops;
       });
-      decided = if_some (StaysOpen q r (dirty_pages mid) now.frozen) (DecidesAt G m t q r (with_frozen mid)) (ChangesAt G s t p r pages now) c.commit_changes-rest.result.decided f.decided (λ at d. record {
+      decided = if_some (StillAwaitsCommitPage q r (dirty_pages mid) now.frozen) (DecidesAt G m t q r (with_frozen mid)) (ChangesAt G s t p r pages now) c.commit_changes-rest.result.decided f.decided (λ at d. record {
         later = earlier_by (G.clock s) (G.clock m) at e.clock d.later d.from;
         from = let a = e.clock in let b = d.from in omega (arith, a, b);
         to = d.to;
@@ -178,7 +178,7 @@ returns-in_default g c =
     let stored = super_page_stands G s p c.args.meta.now (super_bytes (record_of c.args.shape.now c.args.count)) volume c.requires.journaled in
     record {
       formed = e.formed;
-      stands = stands_then G s s m p q c.args.meta.now pages mid volume refl stored (subst (λ (n : Pages). StandsOn G s n m q mid) is e.stands);
+      stands = stands_then G s s m p q c.args.meta.now pages mid volume refl stored (subst (λ (n : Pages). PreservesGraph G s n m q mid) is e.stands);
       commits = record {
         in_memory = record { ends = λ d. absurd (off d); waits = λ o. inl (first.kept ∙ ap (λ (x : Frozen). record pages { frozen = x }) (first.waits o)); running = running };
         parts = record {
@@ -194,12 +194,12 @@ returns-in_default g c =
         paid = part_paid G s m p q c.store_count.new.meta mid.frozen e.clock (subst (λ (n : Pages). IsPhase p.phase (length n.frozen.addresses)) (sym is) c.requires.journaled.order.phase)
             e.finishes.number e.finishes.begun_stays c.complete-first.result.decided e.decided;
       };
-      earlier = if_some (StaysOpen p q c.store_count.new.meta.frozen mid.frozen) (DecidesAt G s m p q c.store_count.new.meta) (EarlierAt G s m p q pages mid) c.complete-first.result.decided e.decided (λ at d. record {
+      earlier = if_some (StillAwaitsCommitPage p q c.store_count.new.meta.frozen mid.frozen) (DecidesAt G s m p q c.store_count.new.meta) (EarlierAt G s m p q pages mid) c.complete-first.result.decided e.decided (λ at d. record {
         later = d.later;
         from = d.from;
         to = d.to;
         stops = λ tells numbers. stopped_stops G s m p pages at
-            (subst (λ (n : Pages). HasNumber p (length n.frozen.addresses) → Leaves G (Turns ⊤ at (LeavesEither G s (committed_on G s) (finished_on G s p n)) (LeavesOne G s (finished_on G s p n))) s m) is (d.stops tells)
+            (subst (λ (n : Pages). HasNumber p (length n.frozen.addresses) → CrashStatesHave G (Turns ⊤ at (LeavesEither G s (committed_on G s) (finished_on G s p n)) (LeavesOne G s (finished_on G s p n))) s m) is (d.stops tells)
             (subst (λ n. n < 9223372036854775808) first.begun_stays numbers));
       });
       decided = tt;

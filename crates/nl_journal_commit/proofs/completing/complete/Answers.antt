@@ -2,7 +2,7 @@ use Rattle.std.proofs.Common.{◌≡◌, ℕ, ⊎_elim, ◌+◌, ◌<◌, length
 use Rattle.std.specs.Prelude.{⊤}
 use Rattle.nl_field.specs.CrashStates.{Earlier, Turns}
 use Rattle.nl_field.specs.declared.answers.VirtualWrite.TheVariants as write
-use Rattle.nl_iface.specs.Calls.{Leaves}
+use Rattle.nl_iface.specs.Calls.{CrashStatesHave}
 use Rattle.nl_journal.specs.Committing.{committed_on, finished_on}
 use Rattle.nl_journal.specs.Left.{LeavesEither, LeavesOne}
 use Rattle.nl_journal.specs.Progress.{begun, units_left}
@@ -69,7 +69,7 @@ returns-in-Done-clause-decided g c =
       later = subst (λ (k : ℕ). Earlier (G.clock s) k) (sym at) (e.clock.later (c.in-Done.is, omega (arith, more, units)));
       from = omega (arith, at, a);
       to = omega (arith, at, b);
-      stops = λ tells numbers. subst (λ (k : ℕ). Leaves G (Turns ⊤ k (LeavesEither G s (committed_on G s) (finished_on G s p pages)) (LeavesOne G s (finished_on G s p pages))) s t) (sym at)
+      stops = λ tells numbers. subst (λ (k : ℕ). CrashStatesHave G (Turns ⊤ k (LeavesEither G s (committed_on G s) (finished_on G s p pages)) (LeavesOne G s (finished_on G s p pages))) s t) (sym at)
           (complete_stops G s m t p q r pages mid now e.passes.named.same_shape (none_failed G (c.finish.result ≡ write.Done) (units_left p.phase (length pages.frozen.addresses)) s m tells c.in-Done.is e.passes)
           (c.finish.result ≡ write.Done) (c.finish-answer-in-Done.result ≡ write.Done) c.in-Done.is
           (closed_pages q.phase mid.frozen (committed_on G m) (G.shape s).vaddrs closed) (e.writes tells numbers) (f.writes tells (subst (λ n. n < 9223372036854775808) (sym e.finishes.begun_stays) numbers)));

@@ -1,5 +1,5 @@
 use Rattle.std.proofs.Common.{◌∙◌, subst}
-use Rattle.nl_namespace.specs.Placing.{IfHeld, IsSpot}
+use Rattle.nl_namespace.specs.Placing.{IfHeld, IsNameSpot}
 use Rattle.nl_namespace.proofs.Chains.{node-before, then-on, then-runs, then-used}
 use Rattle.nl_namespace.proofs.MoveDone.{held-stays}
 use Rattle.nl_namespace.proofs.RemoveDone.{target-used}
@@ -10,13 +10,13 @@ node-requires-clause-runs g c = then-runs g.D.Counts c.args.device.now c.args.me
 
 pub node-requires-clause-used : goal.node-requires-clause-used
 node-requires-clause-used g c =
-    let at = subst (IsSpot g.D.Counts c.args.device.now c.args.meta.now c.args.path.now) c.in-Ok-At.field-0-is c.in-Ok-At.ensures.spot in
+    let at = subst (IsNameSpot g.D.Counts c.args.device.now c.args.meta.now c.args.path.now) c.in-Ok-At.field-0-is c.in-Ok-At.ensures.spot in
     then-used g.D.Counts c.args.device.now c.args.meta.now c.locate.new.device c.locate.new.meta (g.met.D.VirtualPages.numbers c.args.device.now c.requires.formed) c.in-Ok-At.ensures.kept c.in-Some.entry.ino
     (target-used g.D.Counts c.args.device.now c.args.meta.now (g.met.D.VirtualPages.numbers c.args.device.now c.requires.formed) c.requires.runs c.args.path.now c.in-Ok-At.place at c.in-Some.entry c.in-Some.is)
 
 pub returns-in-Ok-clause-found : goal.returns-in-Ok-clause-found
 returns-in-Ok-clause-found g c =
-    let at = subst (IsSpot g.D.Counts c.args.device.now c.args.meta.now c.args.path.now) c.in-Ok-At.field-0-is c.in-Ok-At.ensures.spot in
+    let at = subst (IsNameSpot g.D.Counts c.args.device.now c.args.meta.now c.args.path.now) c.in-Ok-At.field-0-is c.in-Ok-At.ensures.spot in
     record {
       place = record { name = at.name; named = at.named; walked = at.walked; is_node = at.is_node; is_dir = at.is_dir; entry = at.entry ∙ c.in-Some.is };
       is_node = node-before g.D.Counts c.args.device.now c.args.meta.now c.locate.new.device c.locate.new.meta (g.met.D.VirtualPages.numbers c.args.device.now c.requires.formed) c.in-Ok-At.ensures.kept c.in-Some.entry.ino c.in-Ok.node c.in-Ok.ensures.node;

@@ -6,14 +6,14 @@ use Rattle.nl_meta.specs.Pages.{besides_0}
 use Rattle.nl_tree.specs.Represents.{node_reached}
 use Rattle.nl_tree.specs.Step.{is_too_long}
 use Rattle.nl_tree.specs.Tree.{is_root}
-use Rattle.nl_meta_running.specs.Reading.{Reads}
+use Rattle.nl_meta_running.specs.Reading.{ReadsExplainStop}
 use Rattle.nl_meta_running.specs.Running.{running_on}
 use Rattle.nl_meta_running.specs.declared.answer.Stop.{Stop}
 use Rattle.nl_meta_running.proofs.Holds.{none-runs}
 use Rattle.nl_namespace.specs.Making.{empty_node}
 use Rattle.nl_namespace.specs.Naming.{refusal_of_name}
 use Rattle.nl_namespace.specs.Paths.{walk_refusal}
-use Rattle.nl_namespace.specs.Placing.{IfHeld, IsSpot}
+use Rattle.nl_namespace.specs.Placing.{IfHeld, IsNameSpot}
 use Rattle.nl_namespace.specs.Reading.{change_stop}
 use Rattle.nl_namespace.proofs.Chains.{then-graph, then-reads, then-runs}
 use Rattle.nl_namespace.proofs.MakeDone.{empty-path, held-then, last-is-name, not-empty-root}
@@ -92,11 +92,11 @@ make_at-requires-clause-last g c =
     ap (λ (k : ℕ). slice_get c.args.path.now (k - 1)) (sym c.len-in-None.ensures.count) ∙ c.get-last.ensures ∙ ap (λ (x : List ℕ). Some x) (sym c.bytes.ensures)
 
 pub make_at-requires-clause-place : goal.make_at-requires-clause-place
-make_at-requires-clause-place g c = placed-then g.D.Counts c.args.device.now c.args.meta.now (g.met.D.VirtualPages.numbers c.args.device.now c.requires.formed) c.requires.runs c.args.path.now c.in-Ok-At.place (subst (IsSpot g.D.Counts c.args.device.now c.args.meta.now c.args.path.now) c.in-Ok-At.field-0-is c.in-Ok-At.ensures.spot) c.locate.new.device c.locate.new.meta c.in-Ok-At.ensures.kept
+make_at-requires-clause-place g c = placed-then g.D.Counts c.args.device.now c.args.meta.now (g.met.D.VirtualPages.numbers c.args.device.now c.requires.formed) c.requires.runs c.args.path.now c.in-Ok-At.place (subst (IsNameSpot g.D.Counts c.args.device.now c.args.meta.now c.args.path.now) c.in-Ok-At.field-0-is c.in-Ok-At.ensures.spot) c.locate.new.device c.locate.new.meta c.in-Ok-At.ensures.kept
 
 pub make_at-requires-clause-held : goal.make_at-requires-clause-held
 make_at-requires-clause-held g c =
-    let at = (subst (IsSpot g.D.Counts c.args.device.now c.args.meta.now c.args.path.now) c.in-Ok-At.field-0-is c.in-Ok-At.ensures.spot) in
+    let at = (subst (IsNameSpot g.D.Counts c.args.device.now c.args.meta.now c.args.path.now) c.in-Ok-At.field-0-is c.in-Ok-At.ensures.spot) in
     held-then g.D.Counts c.args.device.now c.args.meta.now c.locate.new.device c.locate.new.meta (g.met.D.VirtualPages.numbers c.args.device.now c.requires.formed) c.in-Ok-At.ensures.kept c.in-Ok-At.place.dir c.in-Ok-At.place.rec at.is_node at.is_dir (subst (IfHeld g.D.Counts c.args.device.now c.args.meta.now c.locate.new.meta) c.in-Ok-At.field-0-is c.in-Ok-At.ensures.held)
 
 pub make_at-requires-clause-absent : goal.make_at-requires-clause-absent
@@ -104,7 +104,7 @@ make_at-requires-clause-absent g c = c.in-None.is
 
 pub make_at-requires-clause-unrefused : goal.make_at-requires-clause-unrefused
 make_at-requires-clause-unrefused g c =
-    subst (λ (z : Graph). refusal_of_name z c.args.path.now ≡ None) (sym (then-graph g.D.Counts c.args.device.now c.args.meta.now c.locate.new.device c.locate.new.meta (g.met.D.VirtualPages.numbers c.args.device.now c.requires.formed) c.in-Ok-At.ensures.kept)) (unrefused g.D.Counts c.args.device.now c.args.meta.now (g.met.D.VirtualPages.numbers c.args.device.now c.requires.formed) c.requires.runs c.args.path.now c.in-Ok-At.place (subst (IsSpot g.D.Counts c.args.device.now c.args.meta.now c.args.path.now) c.in-Ok-At.field-0-is c.in-Ok-At.ensures.spot) c.in-None.is (ap is_too_long (sym c.names.ensures) ∙ sym c.is_long.ensures ∙ c.if-is_long.false))
+    subst (λ (z : Graph). refusal_of_name z c.args.path.now ≡ None) (sym (then-graph g.D.Counts c.args.device.now c.args.meta.now c.locate.new.device c.locate.new.meta (g.met.D.VirtualPages.numbers c.args.device.now c.requires.formed) c.in-Ok-At.ensures.kept)) (unrefused g.D.Counts c.args.device.now c.args.meta.now (g.met.D.VirtualPages.numbers c.args.device.now c.requires.formed) c.requires.runs c.args.path.now c.in-Ok-At.place (subst (IsNameSpot g.D.Counts c.args.device.now c.args.meta.now c.args.path.now) c.in-Ok-At.field-0-is c.in-Ok-At.ensures.spot) c.in-None.is (ap is_too_long (sym c.names.ensures) ∙ sym c.is_long.ensures ∙ c.if-is_long.false))
 
 pub make_at-requires-clause-used : goal.make_at-requires-clause-used
 make_at-requires-clause-used g c = c.requires.used
@@ -113,7 +113,7 @@ pub returns-in-Some-clause-formed : goal.returns-in-Some-clause-formed
 returns-in-Some-clause-formed g c = c.in-Ok-At.ensures.formed
 
 pub returns-in-Some-clause-answer : goal.returns-in-Some-clause-answer
-returns-in-Some-clause-answer g c = inl (exists g.D.Counts c.args.device.now c.args.meta.now (g.met.D.VirtualPages.numbers c.args.device.now c.requires.formed) c.requires.runs c.args.path.now c.in-Ok-At.place (subst (IsSpot g.D.Counts c.args.device.now c.args.meta.now c.args.path.now) c.in-Ok-At.field-0-is c.in-Ok-At.ensures.spot) c.in-Some.field-0 c.in-Some.is (ap is_too_long (sym c.names.ensures) ∙ sym c.is_long.ensures ∙ c.if-is_long.false))
+returns-in-Some-clause-answer g c = inl (exists g.D.Counts c.args.device.now c.args.meta.now (g.met.D.VirtualPages.numbers c.args.device.now c.requires.formed) c.requires.runs c.args.path.now c.in-Ok-At.place (subst (IsNameSpot g.D.Counts c.args.device.now c.args.meta.now c.args.path.now) c.in-Ok-At.field-0-is c.in-Ok-At.ensures.spot) c.in-Some.field-0 c.in-Some.is (ap is_too_long (sym c.names.ensures) ∙ sym c.is_long.ensures ∙ c.if-is_long.false))
 
 pub returns-in-Some-clause-left : goal.returns-in-Some-clause-left
 returns-in-Some-clause-left g c = (c.in-Ok-At.ensures.kept, refl)
@@ -140,7 +140,7 @@ returns-in-Ok-No-clause-formed g c = c.in-Ok-No.ensures.formed
 pub returns-in-Ok-No-clause-answer : goal.returns-in-Ok-No-clause-answer
 returns-in-Ok-No-clause-answer g c =
     inl (refusal-is (graph_of (g.D.Counts.shape c.args.device.now) (running_on g.D.Counts c.args.device.now c.args.meta.now)) c.args.path.now false false (is_some (node_reached (graph_of (g.D.Counts.shape c.args.device.now) (running_on g.D.Counts c.args.device.now c.args.meta.now)) 0 c.args.path.now)) (Some c.in-Ok-No.refusal) (ap is_too_long (sym c.names.ensures) ∙ sym c.is_long.ensures ∙ c.if-is_long.false) (not-empty-root c.args.path.now (λ e. c.if-len-eq0.false (c.len.ensures.count ∙ ap length e)))
-    (subst (IsSpot g.D.Counts c.args.device.now c.args.meta.now c.args.path.now) c.in-Ok-No.field-0-is c.in-Ok-No.ensures.spot) refl)
+    (subst (IsNameSpot g.D.Counts c.args.device.now c.args.meta.now c.args.path.now) c.in-Ok-No.field-0-is c.in-Ok-No.ensures.spot) refl)
 
 pub returns-in-Ok-No-clause-left : goal.returns-in-Ok-No-clause-left
 returns-in-Ok-No-clause-left g c = (c.in-Ok-No.ensures.kept, refl)
@@ -155,7 +155,7 @@ pub returns-in-Err-Fault-clause-left : goal.returns-in-Err-Fault-clause-left
 returns-in-Err-Fault-clause-left g c = (c.in-Err-Fault.ensures.kept, refl)
 
 pub returns-in-Err-Fault-clause-reads : goal.returns-in-Err-Fault-clause-reads
-returns-in-Err-Fault-clause-reads g c = subst (λ (x : Stop). Reads g.D.Counts c.args.device.now c.locate.new.device (Some x)) c.in-Err-Fault.field-0-is c.in-Err-Fault.ensures.reads
+returns-in-Err-Fault-clause-reads g c = subst (λ (x : Stop). ReadsExplainStop g.D.Counts c.args.device.now c.locate.new.device (Some x)) c.in-Err-Fault.field-0-is c.in-Err-Fault.ensures.reads
 
 pub returns-in-Err-Lost-clause-formed : goal.returns-in-Err-Lost-clause-formed
 returns-in-Err-Lost-clause-formed g c = c.in-Err-Lost.ensures.formed

@@ -2,8 +2,8 @@ use Rattle.std.proofs.Common.{◌≡◌, ℕ, ◌+◌, ◌-◌, drop, length, re
 use Rattle.std.specs.Prelude.{slice_get}
 use Rattle.nl_tree.specs.Represents.{node_reached}
 use Rattle.nl_namespace.specs.Paths.{walk_refusal}
-use Rattle.nl_namespace.specs.Stepping.{Steps}
-use Rattle.nl_meta_running.specs.Running.{IsUsed}
+use Rattle.nl_namespace.specs.Stepping.{StepsInto}
+use Rattle.nl_meta_running.specs.Running.{IsUsedNode}
 use Rattle.nl_meta_running.proofs.Holds.{bounds-of, none-runs}
 use Rattle.nl_namespace.proofs.Chains.{node-before, then-on, then-reads, then-runs, then-used}
 use Rattle.nl_namespace.proofs.Entries.{directory-back}
@@ -38,11 +38,11 @@ returns-in-Ok-Missing-clause-parent g c =
     let b = bounds-of (g.D.Counts.shape c.args.device.now) (g.met.D.VirtualPages.numbers c.args.device.now c.requires.formed) in
     let n = c.len-i-end.ensures.count in
     let t = c.loop-i-test.true in
-    missing-before g.D.Counts c.args.device.now c.args.meta.now c.args.path.now c.loop-i.i c.loop-i.at c.bytes.result.now (c.get.ensures ∙ ap Some (sym c.bytes.ensures)) (reached-on (graph g.D.Counts c.args.device.now c.args.meta.now) c.args.path.now c.loop-i.i c.loop-i.at c.loop-i.invariant.led) c.loop-i.invariant.refused (directory-back g.D.Counts c.args.device.now c.args.meta.now c.loop-i.device c.loop-i.meta b c.loop-i.invariant.kept c.loop-i.at c.bytes.result.now None (subst (Steps g.D.Counts c.loop-i.device c.loop-i.meta c.loop-i.at c.bytes.result.now) c.in-Ok-Missing.field-0-is c.in-Ok-Missing.ensures.answer)) (omega (arith, n, t))
+    missing-before g.D.Counts c.args.device.now c.args.meta.now c.args.path.now c.loop-i.i c.loop-i.at c.bytes.result.now (c.get.ensures ∙ ap Some (sym c.bytes.ensures)) (reached-on (graph g.D.Counts c.args.device.now c.args.meta.now) c.args.path.now c.loop-i.i c.loop-i.at c.loop-i.invariant.led) c.loop-i.invariant.refused (directory-back g.D.Counts c.args.device.now c.args.meta.now c.loop-i.device c.loop-i.meta b c.loop-i.invariant.kept c.loop-i.at c.bytes.result.now None (subst (StepsInto g.D.Counts c.loop-i.device c.loop-i.meta c.loop-i.at c.bytes.result.now) c.in-Ok-Missing.field-0-is c.in-Ok-Missing.ensures.answer)) (omega (arith, n, t))
 
 pub returns-in-Ok-File-clause-parent : goal.returns-in-Ok-File-clause-parent
 returns-in-Ok-File-clause-parent g c =
-    let f = subst (Steps g.D.Counts c.loop-i.device c.loop-i.meta c.loop-i.at c.bytes.result.now) c.in-Ok-File.field-0-is c.in-Ok-File.ensures.answer in
+    let f = subst (StepsInto g.D.Counts c.loop-i.device c.loop-i.meta c.loop-i.at c.bytes.result.now) c.in-Ok-File.field-0-is c.in-Ok-File.ensures.answer in
     file-before g.D.Counts c.args.device.now c.args.meta.now c.args.path.now c.loop-i.i c.loop-i.at c.bytes.result.now (c.get.ensures ∙ ap Some (sym c.bytes.ensures)) (reached-on (graph g.D.Counts c.args.device.now c.args.meta.now) c.args.path.now c.loop-i.i c.loop-i.at c.loop-i.invariant.led) c.loop-i.invariant.refused f.0 (node-before g.D.Counts c.args.device.now c.args.meta.now c.loop-i.device c.loop-i.meta (g.met.D.VirtualPages.numbers c.args.device.now c.requires.formed) c.loop-i.invariant.kept c.loop-i.at f.0 f.1) f.2
 
 pub returns-in-Ok-Missing-clause-kept : goal.returns-in-Ok-Missing-clause-kept
@@ -64,7 +64,7 @@ returns-in-Err-clause-reads g c =
 pub loop-i-preserved : goal.loop-i-preserved
 loop-i-preserved g c =
     let b = bounds-of (g.D.Counts.shape c.args.device.now) (g.met.D.VirtualPages.numbers c.args.device.now c.requires.formed) in
-    let a = subst (Steps g.D.Counts c.loop-i.device c.loop-i.meta c.loop-i.at c.bytes.result.now) c.in-Ok-To.field-0-is c.in-Ok-To.ensures.answer in
+    let a = subst (StepsInto g.D.Counts c.loop-i.device c.loop-i.meta c.loop-i.at c.bytes.result.now) c.in-Ok-To.field-0-is c.in-Ok-To.ensures.answer in
     let d = directory-back g.D.Counts c.args.device.now c.args.meta.now c.loop-i.device c.loop-i.meta b c.loop-i.invariant.kept c.loop-i.at c.bytes.result.now (Some a.0) a.1 in
     let name = c.get.ensures ∙ ap Some (sym c.bytes.ensures) in
     let s = onwards g.D.Counts c.args.device.now c.args.meta.now c.args.path.now c.loop-i.i c.loop-i.at c.bytes.result.now name (reached-on (graph g.D.Counts c.args.device.now c.args.meta.now) c.args.path.now c.loop-i.i c.loop-i.at c.loop-i.invariant.led) c.loop-i.invariant.refused a.0 d in
@@ -72,7 +72,7 @@ loop-i-preserved g c =
       formed = c.in-Ok-To.ensures.formed;
       kept = then-on g.D.Counts c.args.device.now c.args.meta.now c.loop-i.device c.loop-i.meta (g.met.D.VirtualPages.numbers c.args.device.now c.requires.formed) c.loop-i.invariant.kept c.follow.new.device c.follow.new.meta c.in-Ok-To.ensures.kept;
       faults = c.in-Ok-To.ensures.reads ∙ c.loop-i.invariant.faults;
-      used = subst (IsUsed g.D.Counts c.args.device.now c.args.meta.now) a.2 (entry-used g.D.Counts c.args.device.now c.args.meta.now c.loop-i.at c.bytes.result.now c.requires.runs a.0 d);
+      used = subst (IsUsedNode g.D.Counts c.args.device.now c.args.meta.now) a.2 (entry-used g.D.Counts c.args.device.now c.args.meta.now c.loop-i.at c.bytes.result.now c.requires.runs a.0 d);
       led = led-on (graph g.D.Counts c.args.device.now c.args.meta.now) c.args.path.now c.loop-i.i c.loop-i.at c.loop-i.invariant.led c.bytes.result.now c.in-Ok-To.ino name
           (entry-is g.D.Counts c.args.device.now c.args.meta.now c.loop-i.at c.bytes.result.now (Some a.0) d ∙ ap (λ (n : ℕ). Some n) a.2);
       refused = s.1 ∙ ap (λ (n : ℕ). walk_refusal (graph g.D.Counts c.args.device.now c.args.meta.now) n (drop (c.loop-i.i + 1) c.args.path.now)) a.2;

@@ -6,13 +6,13 @@ use Rattle.nl_tree.specs.Represents.{node_reached}
 use Rattle.nl_tree.specs.Step.{is_too_long}
 use Rattle.nl_tree.specs.Tree.{is_root}
 use Rattle.nl_tree.specs.declared.reply.Refusal.{Refusal}
-use Rattle.nl_meta_running.specs.Reading.{Reads}
+use Rattle.nl_meta_running.specs.Reading.{ReadsExplainStop}
 use Rattle.nl_meta_running.specs.Running.{running_on}
 use Rattle.nl_meta_running.specs.declared.answer.Stop.{Stop}
 use Rattle.nl_meta_running.proofs.Holds.{none-runs}
 use Rattle.nl_namespace.specs.Naming.{RemovesName, body_at, refusal_of_kind}
 use Rattle.nl_namespace.specs.Paths.{walk_refusal}
-use Rattle.nl_namespace.specs.Placing.{IfHeld, IsSpot}
+use Rattle.nl_namespace.specs.Placing.{IfHeld, IsNameSpot}
 use Rattle.nl_namespace.specs.Reading.{change_stop}
 use Rattle.nl_namespace.proofs.Chains.{then-graph, then-reads, then-runs}
 use Rattle.nl_namespace.proofs.MakeDone.{empty-path, held-then, not-empty-root}
@@ -66,10 +66,10 @@ pub remove_at-requires-clause-room : goal.remove_at-requires-clause-room
 remove_at-requires-clause-room g c = let e = ap (λ (ds : List ℕ). length (besides_0 ds)) c.in-Ok-At.ensures.kept.dirty in let r = c.requires.room in omega (arith, e, r)
 
 pub remove_at-requires-clause-place : goal.remove_at-requires-clause-place
-remove_at-requires-clause-place g c = placed-then g.D.Counts c.args.device.now c.args.meta.now (g.met.D.VirtualPages.numbers c.args.device.now c.requires.formed) c.requires.runs c.args.path.now c.in-Ok-At.place (subst (IsSpot g.D.Counts c.args.device.now c.args.meta.now c.args.path.now) c.in-Ok-At.field-0-is c.in-Ok-At.ensures.spot) c.locate.new.device c.locate.new.meta c.in-Ok-At.ensures.kept
+remove_at-requires-clause-place g c = placed-then g.D.Counts c.args.device.now c.args.meta.now (g.met.D.VirtualPages.numbers c.args.device.now c.requires.formed) c.requires.runs c.args.path.now c.in-Ok-At.place (subst (IsNameSpot g.D.Counts c.args.device.now c.args.meta.now c.args.path.now) c.in-Ok-At.field-0-is c.in-Ok-At.ensures.spot) c.locate.new.device c.locate.new.meta c.in-Ok-At.ensures.kept
 
 pub remove_at-requires-clause-held : goal.remove_at-requires-clause-held
-remove_at-requires-clause-held g c = let at = (subst (IsSpot g.D.Counts c.args.device.now c.args.meta.now c.args.path.now) c.in-Ok-At.field-0-is c.in-Ok-At.ensures.spot) in held-then g.D.Counts c.args.device.now c.args.meta.now c.locate.new.device c.locate.new.meta (g.met.D.VirtualPages.numbers c.args.device.now c.requires.formed) c.in-Ok-At.ensures.kept c.in-Ok-At.place.dir c.in-Ok-At.place.rec at.is_node at.is_dir (subst (IfHeld g.D.Counts c.args.device.now c.args.meta.now c.locate.new.meta) c.in-Ok-At.field-0-is c.in-Ok-At.ensures.held)
+remove_at-requires-clause-held g c = let at = (subst (IsNameSpot g.D.Counts c.args.device.now c.args.meta.now c.args.path.now) c.in-Ok-At.field-0-is c.in-Ok-At.ensures.spot) in held-then g.D.Counts c.args.device.now c.args.meta.now c.locate.new.device c.locate.new.meta (g.met.D.VirtualPages.numbers c.args.device.now c.requires.formed) c.in-Ok-At.ensures.kept c.in-Ok-At.place.dir c.in-Ok-At.place.rec at.is_node at.is_dir (subst (IfHeld g.D.Counts c.args.device.now c.args.meta.now c.locate.new.meta) c.in-Ok-At.field-0-is c.in-Ok-At.ensures.held)
 
 pub remove_at-requires-clause-there : goal.remove_at-requires-clause-there
 remove_at-requires-clause-there g c = c.in-Some.is
@@ -96,7 +96,7 @@ pub returns-in-None-clause-formed : goal.returns-in-None-clause-formed
 returns-in-None-clause-formed g c = c.in-Ok-At.ensures.formed
 
 pub returns-in-None-clause-answer : goal.returns-in-None-clause-answer
-returns-in-None-clause-answer g c = no-target g.D.Counts c.args.device.now c.args.meta.now (g.met.D.VirtualPages.numbers c.args.device.now c.requires.formed) c.requires.runs c.args.path.now c.in-Ok-At.place (subst (IsSpot g.D.Counts c.args.device.now c.args.meta.now c.args.path.now) c.in-Ok-At.field-0-is c.in-Ok-At.ensures.spot) c.args.kind c.in-None.is (ap is_too_long (sym c.names.ensures) ∙ sym c.is_long.ensures ∙ c.if-is_long.false)
+returns-in-None-clause-answer g c = no-target g.D.Counts c.args.device.now c.args.meta.now (g.met.D.VirtualPages.numbers c.args.device.now c.requires.formed) c.requires.runs c.args.path.now c.in-Ok-At.place (subst (IsNameSpot g.D.Counts c.args.device.now c.args.meta.now c.args.path.now) c.in-Ok-At.field-0-is c.in-Ok-At.ensures.spot) c.args.kind c.in-None.is (ap is_too_long (sym c.names.ensures) ∙ sym c.is_long.ensures ∙ c.if-is_long.false)
 
 pub returns-in-None-clause-left : goal.returns-in-None-clause-left
 returns-in-None-clause-left g c = (c.in-Ok-At.ensures.kept, refl)
@@ -108,7 +108,7 @@ pub returns-in-Ok-No-clause-formed : goal.returns-in-Ok-No-clause-formed
 returns-in-Ok-No-clause-formed g c = c.in-Ok-No.ensures.formed
 
 pub returns-in-Ok-No-clause-answer : goal.returns-in-Ok-No-clause-answer
-returns-in-Ok-No-clause-answer g c = removal-is c.args.kind (graph_of (g.D.Counts.shape c.args.device.now) (running_on g.D.Counts c.args.device.now c.args.meta.now)) c.args.path.now false false (is_none (node_reached (graph_of (g.D.Counts.shape c.args.device.now) (running_on g.D.Counts c.args.device.now c.args.meta.now)) 0 c.args.path.now)) (Some c.in-Ok-No.refusal) (refusal_of_kind c.args.kind (body_at (graph_of (g.D.Counts.shape c.args.device.now) (running_on g.D.Counts c.args.device.now c.args.meta.now)) c.args.path.now)) (ap is_too_long (sym c.names.ensures) ∙ sym c.is_long.ensures ∙ c.if-is_long.false) (not-empty-root c.args.path.now (λ e. c.if-len-eq0.false (c.len.ensures.count ∙ ap length e))) (subst (IsSpot g.D.Counts c.args.device.now c.args.meta.now c.args.path.now) c.in-Ok-No.field-0-is c.in-Ok-No.ensures.spot) refl refl
+returns-in-Ok-No-clause-answer g c = removal-is c.args.kind (graph_of (g.D.Counts.shape c.args.device.now) (running_on g.D.Counts c.args.device.now c.args.meta.now)) c.args.path.now false false (is_none (node_reached (graph_of (g.D.Counts.shape c.args.device.now) (running_on g.D.Counts c.args.device.now c.args.meta.now)) 0 c.args.path.now)) (Some c.in-Ok-No.refusal) (refusal_of_kind c.args.kind (body_at (graph_of (g.D.Counts.shape c.args.device.now) (running_on g.D.Counts c.args.device.now c.args.meta.now)) c.args.path.now)) (ap is_too_long (sym c.names.ensures) ∙ sym c.is_long.ensures ∙ c.if-is_long.false) (not-empty-root c.args.path.now (λ e. c.if-len-eq0.false (c.len.ensures.count ∙ ap length e))) (subst (IsNameSpot g.D.Counts c.args.device.now c.args.meta.now c.args.path.now) c.in-Ok-No.field-0-is c.in-Ok-No.ensures.spot) refl refl
 
 pub returns-in-Ok-No-clause-left : goal.returns-in-Ok-No-clause-left
 returns-in-Ok-No-clause-left g c = (c.in-Ok-No.ensures.kept, refl)
@@ -129,7 +129,7 @@ pub returns-in-Err-Lost-clause-left : goal.returns-in-Err-Lost-clause-left
 returns-in-Err-Lost-clause-left g c = (c.in-Err-Lost.ensures.kept, refl)
 
 pub returns-in-Err-Fault-clause-reads : goal.returns-in-Err-Fault-clause-reads
-returns-in-Err-Fault-clause-reads g c = subst (λ (x : Stop). Reads g.D.Counts c.args.device.now c.locate.new.device (Some x)) c.in-Err-Fault.field-0-is c.in-Err-Fault.ensures.reads
+returns-in-Err-Fault-clause-reads g c = subst (λ (x : Stop). ReadsExplainStop g.D.Counts c.args.device.now c.locate.new.device (Some x)) c.in-Err-Fault.field-0-is c.in-Err-Fault.ensures.reads
 
 pub returns-in-Err-Lost-clause-reads : goal.returns-in-Err-Lost-clause-reads
 returns-in-Err-Lost-clause-reads g c = search rules

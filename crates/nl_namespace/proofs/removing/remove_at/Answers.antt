@@ -1,5 +1,5 @@
 use Rattle.std.proofs.Common.{ℕ, List, refl, sym, subst, ◌∙◌, Some, rules}
-use Rattle.nl_meta_running.specs.Reading.{Reads}
+use Rattle.nl_meta_running.specs.Reading.{ReadsExplainStop}
 use Rattle.nl_meta_running.specs.declared.answer.Stop.{Stop}
 use Rattle.nl_namespace.specs.Entering.{HasNamed, TakesOut}
 use Rattle.nl_namespace.specs.Naming.{refusal_of_record}
@@ -55,7 +55,7 @@ pub returns-in-Err-Lost-clause-left : goal.returns-in-Err-Lost-clause-left
 returns-in-Err-Lost-clause-left g c = (c.in-Err-Lost.ensures.kept, refl)
 
 pub returns-in-Err-Fault-clause-reads : goal.returns-in-Err-Fault-clause-reads
-returns-in-Err-Fault-clause-reads g c = subst (λ (x : Stop). Reads g.D.Counts c.args.device.now c.node.new.device (Some x)) c.in-Err-Fault.field-0-is c.in-Err-Fault.ensures.reads
+returns-in-Err-Fault-clause-reads g c = subst (λ (x : Stop). ReadsExplainStop g.D.Counts c.args.device.now c.node.new.device (Some x)) c.in-Err-Fault.field-0-is c.in-Err-Fault.ensures.reads
 
 pub returns-in-Err-Lost-clause-reads : goal.returns-in-Err-Lost-clause-reads
 returns-in-Err-Lost-clause-reads g c = search rules

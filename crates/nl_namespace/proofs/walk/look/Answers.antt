@@ -1,8 +1,8 @@
 use Rattle.std.proofs.Common.{ℕ, ◌+◌, drop, refl, sym, ap, subst, ◌∙◌, Some, None, arith}
 use Rattle.nl_tree.specs.Represents.{node_reached}
 use Rattle.nl_namespace.specs.Paths.{walk_refusal}
-use Rattle.nl_meta_running.specs.Running.{IsUsed}
-use Rattle.nl_namespace.specs.Stepping.{Steps}
+use Rattle.nl_meta_running.specs.Running.{IsUsedNode}
+use Rattle.nl_namespace.specs.Stepping.{StepsInto}
 use Rattle.nl_namespace.proofs.Entries.{directory-back}
 use Rattle.nl_namespace.proofs.Graphs.{drop-all, entry-used, graph, root-used}
 use Rattle.nl_meta_running.proofs.Holds.{bounds-of, none-runs}
@@ -37,7 +37,7 @@ returns-then-i-count-clause-answer g c =
     let b = bounds-of (g.D.Counts.shape c.args.device.now) (g.met.D.VirtualPages.numbers c.args.device.now c.requires.formed) in
     let e = c.if-i-count.true in
     let n = c.len-count.ensures.count in
-    missing-last g.D.Counts c.args.device.now c.args.meta.now c.args.path.now c.loop-i.i c.loop-i.at c.bytes.result.now (c.get.ensures ∙ ap Some (sym c.bytes.ensures)) c.loop-i.invariant.reached c.loop-i.invariant.refused (directory-back g.D.Counts c.args.device.now c.args.meta.now c.loop-i.device c.loop-i.meta b c.loop-i.invariant.kept c.loop-i.at c.bytes.result.now None (subst (Steps g.D.Counts c.loop-i.device c.loop-i.meta c.loop-i.at c.bytes.result.now) c.in-Ok-Missing.field-0-is c.in-Ok-Missing.ensures.answer)) (omega (arith, e, n))
+    missing-last g.D.Counts c.args.device.now c.args.meta.now c.args.path.now c.loop-i.i c.loop-i.at c.bytes.result.now (c.get.ensures ∙ ap Some (sym c.bytes.ensures)) c.loop-i.invariant.reached c.loop-i.invariant.refused (directory-back g.D.Counts c.args.device.now c.args.meta.now c.loop-i.device c.loop-i.meta b c.loop-i.invariant.kept c.loop-i.at c.bytes.result.now None (subst (StepsInto g.D.Counts c.loop-i.device c.loop-i.meta c.loop-i.at c.bytes.result.now) c.in-Ok-Missing.field-0-is c.in-Ok-Missing.ensures.answer)) (omega (arith, e, n))
 
 pub returns-else-i-count-clause-answer : goal.returns-else-i-count-clause-answer
 returns-else-i-count-clause-answer g c =
@@ -45,12 +45,12 @@ returns-else-i-count-clause-answer g c =
     let e = c.if-i-count.false in
     let n = c.len-count.ensures.count in
     let t = c.loop-i-test.true in
-    missing-before g.D.Counts c.args.device.now c.args.meta.now c.args.path.now c.loop-i.i c.loop-i.at c.bytes.result.now (c.get.ensures ∙ ap Some (sym c.bytes.ensures)) c.loop-i.invariant.reached c.loop-i.invariant.refused (directory-back g.D.Counts c.args.device.now c.args.meta.now c.loop-i.device c.loop-i.meta b c.loop-i.invariant.kept c.loop-i.at c.bytes.result.now None (subst (Steps g.D.Counts c.loop-i.device c.loop-i.meta c.loop-i.at c.bytes.result.now) c.in-Ok-Missing.field-0-is c.in-Ok-Missing.ensures.answer)) (omega (arith, e, n, t))
+    missing-before g.D.Counts c.args.device.now c.args.meta.now c.args.path.now c.loop-i.i c.loop-i.at c.bytes.result.now (c.get.ensures ∙ ap Some (sym c.bytes.ensures)) c.loop-i.invariant.reached c.loop-i.invariant.refused (directory-back g.D.Counts c.args.device.now c.args.meta.now c.loop-i.device c.loop-i.meta b c.loop-i.invariant.kept c.loop-i.at c.bytes.result.now None (subst (StepsInto g.D.Counts c.loop-i.device c.loop-i.meta c.loop-i.at c.bytes.result.now) c.in-Ok-Missing.field-0-is c.in-Ok-Missing.ensures.answer)) (omega (arith, e, n, t))
 
 pub returns-in-Ok-File-clause-answer : goal.returns-in-Ok-File-clause-answer
 returns-in-Ok-File-clause-answer g c =
     let b = bounds-of (g.D.Counts.shape c.args.device.now) (g.met.D.VirtualPages.numbers c.args.device.now c.requires.formed) in
-    let f = subst (Steps g.D.Counts c.loop-i.device c.loop-i.meta c.loop-i.at c.bytes.result.now) c.in-Ok-File.field-0-is c.in-Ok-File.ensures.answer in
+    let f = subst (StepsInto g.D.Counts c.loop-i.device c.loop-i.meta c.loop-i.at c.bytes.result.now) c.in-Ok-File.field-0-is c.in-Ok-File.ensures.answer in
     file-before g.D.Counts c.args.device.now c.args.meta.now c.args.path.now c.loop-i.i c.loop-i.at c.bytes.result.now (c.get.ensures ∙ ap Some (sym c.bytes.ensures)) c.loop-i.invariant.reached c.loop-i.invariant.refused f.0 (used-back g.D.Counts c.args.device.now c.args.meta.now c.loop-i.device c.loop-i.meta b c.loop-i.invariant.kept c.loop-i.at f.0 f.1) f.2
 
 pub returns-then-i-count-clause-kept : goal.returns-then-i-count-clause-kept
@@ -81,14 +81,14 @@ returns-in-Err-Lost-clause-kept g c =
 pub loop-i-preserved : goal.loop-i-preserved
 loop-i-preserved g c =
     let b = bounds-of (g.D.Counts.shape c.args.device.now) (g.met.D.VirtualPages.numbers c.args.device.now c.requires.formed) in
-    let a = subst (Steps g.D.Counts c.loop-i.device c.loop-i.meta c.loop-i.at c.bytes.result.now) c.in-Ok-To.field-0-is c.in-Ok-To.ensures.answer in
+    let a = subst (StepsInto g.D.Counts c.loop-i.device c.loop-i.meta c.loop-i.at c.bytes.result.now) c.in-Ok-To.field-0-is c.in-Ok-To.ensures.answer in
     let d = directory-back g.D.Counts c.args.device.now c.args.meta.now c.loop-i.device c.loop-i.meta b c.loop-i.invariant.kept c.loop-i.at c.bytes.result.now (Some a.0) a.1 in
     let s = onwards g.D.Counts c.args.device.now c.args.meta.now c.args.path.now c.loop-i.i c.loop-i.at c.bytes.result.now (c.get.ensures ∙ ap Some (sym c.bytes.ensures)) c.loop-i.invariant.reached c.loop-i.invariant.refused a.0 d in
     record {
       formed = c.in-Ok-To.ensures.formed;
       kept = kept-then g.D.Counts c.args.device.now c.args.meta.now c.loop-i.device c.loop-i.meta b c.loop-i.invariant.kept c.follow.new.device c.follow.new.meta c.in-Ok-To.ensures.kept;
       faults = c.in-Ok-To.ensures.reads ∙ c.loop-i.invariant.faults;
-      used = subst (IsUsed g.D.Counts c.args.device.now c.args.meta.now) a.2 (entry-used g.D.Counts c.args.device.now c.args.meta.now c.loop-i.at c.bytes.result.now c.requires.runs a.0 d);
+      used = subst (IsUsedNode g.D.Counts c.args.device.now c.args.meta.now) a.2 (entry-used g.D.Counts c.args.device.now c.args.meta.now c.loop-i.at c.bytes.result.now c.requires.runs a.0 d);
       reached = s.0 ∙ ap (λ (n : ℕ). node_reached (graph g.D.Counts c.args.device.now c.args.meta.now) n (drop (c.loop-i.i + 1) c.args.path.now)) a.2;
       refused = s.1 ∙ ap (λ (n : ℕ). walk_refusal (graph g.D.Counts c.args.device.now c.args.meta.now) n (drop (c.loop-i.i + 1) c.args.path.now)) a.2;
     }

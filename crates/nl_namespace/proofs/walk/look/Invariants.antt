@@ -1,16 +1,16 @@
 use Rattle.std.proofs.Common.{◌≡◌, drop}
 use Rattle.nl_tree.specs.Represents.{node_reached}
 use Rattle.nl_namespace.specs.Paths.{walk_refusal}
-use Rattle.nl_meta_running.specs.Running.{IsUsed, RunsOn}
+use Rattle.nl_meta_running.specs.Running.{IsUsedNode, PreservesRunning}
 use Rattle.nl_namespace.proofs.Graphs.{graph}
 use Rattle.nl_namespace.proofs.walk.look.Given as goal
 
 abbrev pub invariant-loop-i : goal.invariant-loop-i
 invariant-loop-i g l = record {
   formed : g.D.Counts.formed l.device;
-  kept : RunsOn g.D.Counts l.initial.device l.initial.meta l.device l.meta;
+  kept : PreservesRunning g.D.Counts l.initial.device l.initial.meta l.device l.meta;
   faults : g.D.Counts.read_faults l.device ≡ g.D.Counts.read_faults l.initial.device;
-  used : IsUsed g.D.Counts l.initial.device l.initial.meta l.at;
+  used : IsUsedNode g.D.Counts l.initial.device l.initial.meta l.at;
   reached : node_reached (graph g.D.Counts l.initial.device l.initial.meta) 0 l.path ≡ node_reached (graph g.D.Counts l.initial.device l.initial.meta) l.at (drop l.i l.path);
   refused : walk_refusal (graph g.D.Counts l.initial.device l.initial.meta) 0 l.path ≡ walk_refusal (graph g.D.Counts l.initial.device l.initial.meta) l.at (drop l.i l.path);
 }

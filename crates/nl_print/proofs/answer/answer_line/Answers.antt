@@ -1,6 +1,6 @@
 use Rattle.std.proofs.Common.{◌≡◌, ℕ, List, [], ◌∷◌, ◌++◌, subst, arith}
 use Rattle.std.proofs.lemmas.Grind.{common_steps}
-use Rattle.nl_io.specs.Streams.{Writes}
+use Rattle.nl_io.specs.Streams.{WritesStream}
 use Rattle.nl_io.specs.declared.sink.SinkAnswer.TheVariants as sink
 use Rattle.nl_print.specs.Tail.{tail_text}
 use Rattle.nl_print.specs.Texts.{answer_line}
@@ -17,7 +17,7 @@ returns-in-Took-write_tail-clause-text g c =
     let new = g.K.Sink.taken c.write-in-Took-write_tail.new.self in
     let whole : (front ++ tail) ++ 10 ∷ [] ≡ answer_line c.args.place (c.args.line, c.args.reply.now, c.args.bytes.now) = grind (arith, common_steps) in
     let two = then_write old mid after sink.Took front tail c.in-Took.ensures.bytes c.in-Took-write_tail.ensures.text in
-    subst (λ (t : List ℕ). Writes old new c.write-in-Took-write_tail.result t) whole
+    subst (λ (t : List ℕ). WritesStream old new c.write-in-Took-write_tail.result t) whole
     (then_write old after new c.write-in-Took-write_tail.result (front ++ tail) (10 ∷ []) two c.write-in-Took-write_tail.ensures.bytes)
 
 pub returns-in-Failed-write_tail-clause-text : goal.returns-in-Failed-write_tail-clause-text
@@ -29,4 +29,4 @@ returns-in-Failed-write_tail-clause-text g c =
     let new = g.K.Sink.taken c.write_tail.new.sink in
     let whole : (front ++ tail) ++ 10 ∷ [] ≡ answer_line c.args.place (c.args.line, c.args.reply.now, c.args.bytes.now) = grind (arith, common_steps) in
     let two = then_write old mid new sink.Failed front tail c.in-Took.ensures.bytes c.in-Failed-write_tail.ensures.text in
-    subst (λ (t : List ℕ). Writes old new sink.Failed t) whole (stopped old new (front ++ tail) (10 ∷ []) two)
+    subst (λ (t : List ℕ). WritesStream old new sink.Failed t) whole (stopped old new (front ++ tail) (10 ∷ []) two)

@@ -1,6 +1,6 @@
 use Rattle.std.proofs.Common.{◌≡◌, ◌≤◌, ℕ, ◌++◌, List, length}
 use Rattle.hex.specs.Hex.{encode_lower}
-use Rattle.nl_io.specs.Streams.{Writes}
+use Rattle.nl_io.specs.Streams.{WritesStream}
 use Rattle.nl_io.specs.declared.sink.SinkAnswer.TheVariants as sink
 use Rattle.nl_print.proofs.answer.write_hex.Given as goal
 
@@ -8,7 +8,7 @@ use Rattle.nl_print.proofs.answer.write_hex.Given as goal
 abbrev pub invariant-pieces : goal.invariant-pieces
 invariant-pieces g l =
     record {
-      front : (done : List ℕ) × Writes (g.K.Sink.taken l.initial.sink) (g.K.Sink.taken l.sink) sink.Took done × (done ++ encode_lower l.rest ≡ encode_lower l.bytes);
+      front : (done : List ℕ) × WritesStream (g.K.Sink.taken l.initial.sink) (g.K.Sink.taken l.sink) sink.Took done × (done ++ encode_lower l.rest ≡ encode_lower l.bytes);
       later : g.K.Sink.faults l.initial.sink ≤ g.K.Sink.faults l.sink;
     }
 

@@ -1,5 +1,5 @@
 use Rattle.std.proofs.Common.{ℕ, ◌+◌, List, ◌∷◌, ◌++◌, drop, subst, ◌∙◌, le_trans, arith}
-use Rattle.nl_io.specs.Streams.{Writes}
+use Rattle.nl_io.specs.Streams.{WritesStream}
 use Rattle.nl_io.specs.declared.sink.SinkAnswer.TheVariants as sink
 use Rattle.nl_print.specs.Texts.{slashed}
 use Rattle.nl_print.proofs.Names.{next_name, slashed_split, some_names}
@@ -33,4 +33,4 @@ returns-in-Failed-clause-text g c =
     let split = next_name names i name c.name_at.ensures in
     let two = then_write old (g.K.Sink.taken c.names.sink) new sink.Failed front.0 (47 ∷ name) front.1 c.in-Failed.ensures.text in
     let whole = slashed_split front.0 (slashed names) name (drop i names) (drop (i + 1) names) front.2 split ∙ some_names names (λ none. omega arith) in
-    subst (λ (t : List ℕ). Writes old new sink.Failed t) whole (stopped old new (front.0 ++ 47 ∷ name) (slashed (drop (i + 1) names)) two)
+    subst (λ (t : List ℕ). WritesStream old new sink.Failed t) whole (stopped old new (front.0 ++ 47 ∷ name) (slashed (drop (i + 1) names)) two)

@@ -1,6 +1,6 @@
 use Rattle.std.proofs.Common.{ℕ, List, [], ◌∷◌, ◌++◌, ◌∙◌, ap, subst}
 use Rattle.std.specs.Prelude.{codes}
-use Rattle.nl_io.specs.Streams.{Writes}
+use Rattle.nl_io.specs.Streams.{WritesStream}
 use Rattle.nl_print.specs.Texts.{field}
 use Rattle.nl_print.proofs.Fields.{six_from_none}
 use Rattle.nl_print.proofs.report.formatted_line.Goals as goal
@@ -27,4 +27,4 @@ returns-clause-text g c =
     (c.push_field-4.ensures.bytes ∙ ap (λ (n : ℕ). n3 ++ field e n) c.from-4.ensures)
     (c.push_field-5.ensures.bytes ∙ ap (λ (n : ℕ). n4 ++ field f n) c.from-5.ensures)
     c.push.ensures.bytes in
-    subst (λ (t : List ℕ). Writes (g.K.Sink.taken c.args.sink.now) (g.K.Sink.taken c.write.new.self) c.write.result t) (c.bytes.ensures ∙ text) c.write.ensures.bytes
+    subst (λ (t : List ℕ). WritesStream (g.K.Sink.taken c.args.sink.now) (g.K.Sink.taken c.write.new.self) c.write.result t) (c.bytes.ensures ∙ text) c.write.ensures.bytes

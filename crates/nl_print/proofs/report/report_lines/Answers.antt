@@ -1,6 +1,6 @@
 use Rattle.std.proofs.Common.{ℕ, List, ◌++◌, ◌∙◌, ap, subst}
 use Rattle.std.specs.Prelude.{codes}
-use Rattle.nl_io.specs.Streams.{Writes}
+use Rattle.nl_io.specs.Streams.{WritesStream}
 use Rattle.nl_print.specs.Texts.{number_text, blocks_text, pages_text, wear_text}
 use Rattle.nl_print.proofs.Fields.{six_from_none}
 use Rattle.nl_print.proofs.report.report_lines.Goals as goal
@@ -19,4 +19,4 @@ returns-clause-text g c =
     (c.push_number_line-2.ensures.text ∙ ap (λ (n : ℕ). n3 ++ number_text (codes "remap") n) c.from.ensures)
     c.push_wear.ensures.text
     c.push_number_line-3.ensures.text in
-    subst (λ (t : List ℕ). Writes (g.K.Sink.taken a.sink.now) (g.K.Sink.taken c.write.new.self) c.write.result t) (c.bytes.ensures ∙ text) c.write.ensures.bytes
+    subst (λ (t : List ℕ). WritesStream (g.K.Sink.taken a.sink.now) (g.K.Sink.taken c.write.new.self) c.write.result t) (c.bytes.ensures ∙ text) c.write.ensures.bytes

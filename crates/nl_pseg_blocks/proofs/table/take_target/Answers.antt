@@ -6,7 +6,7 @@ use Rattle.nl_blocks.specs.Table.{Table, new_page, unmarked, block_at, taken}
 use Rattle.nl_blocks.specs.Used.{SameUsed, first_unmarked, is_active_state, is_target_state, used_in}
 use Rattle.nl_blocks.proofs.UsedLaws.{first-taken, risen-taken, used-each, used-here}
 use Rattle.std.proofs.lemmas.Bool.{cond-false, true≢false}
-use Rattle.nl_pseg_blocks.specs.Uses.{Use, use_in, use_with, Restated}
+use Rattle.nl_pseg_blocks.specs.Uses.{Use, use_in, use_with, SetsUse}
 use Rattle.nl_pseg_blocks.proofs.Tables.{restated, shut_free, use_here}
 use Rattle.nl_pseg_blocks.proofs.table.take_target.Goals as goal
 
@@ -20,7 +20,7 @@ returns-clause-taken c =
     let t = c.args.blocks.now in
     let block = c.in-Some.block in
     let has = c.in-Some.ensures.chosen.has in
-    subst (Restated block false (use_in t block).wear t) (sym c.in-Some.ensures.taken)
+    subst (SetsUse block false (use_in t block).wear t) (sym c.in-Some.ensures.taken)
     (restated t block (taken (block_at t block) Target) false (use_in t block).wear has (ap (λ (u : Use). use_with false u.wear) (sym (use_here t block has)))
     (λ k. ap (λ (p : Page). p.state) (get_or-map unmarked (block_at t block).pages k new_page))
     (λ rising. record { active = λ e. absurd (true≢false (sym e)); target = λ e. risen-taken (block_at t block).pages }))

@@ -2,7 +2,7 @@ use Rattle.std.proofs.Common.{◌≡◌, ◌<◌, refl, sym, ◌∙◌, ap, subs
 use Rattle.nl_blocks.specs.declared.states.BlockState.TheVariants.{Retired}
 use Rattle.nl_blocks.specs.Table.{BlockRow, after_erase, block_at, is_retired_state, names_of, no_row}
 use Rattle.nl_blocks.specs.declared.states.BlockState.{BlockState}
-use Rattle.nl_pseg_blocks.specs.Uses.{use_of, IsTold}
+use Rattle.nl_pseg_blocks.specs.Uses.{use_of, SetsWear}
 use Rattle.nl_pseg_blocks.proofs.Tables.{after_some, row_here, shut_after, shut_risen, told_block, use_here}
 use Rattle.nl_pseg_blocks.proofs.table.wait_with.Goals as goal
 
@@ -16,7 +16,7 @@ returns-clause-told c =
     let now : after_erase c.args.names ≡ Retired c.args.names = after_some c.args.names some in
     let was = use_here t b has in
     let state : (block_at t b).state ≡ Retired c.args.names = c.requires.retired in
-    subst (IsTold b c.args.wear t) (sym c.found.ensures)
+    subst (SetsWear b c.args.wear t) (sym c.found.ensures)
     (told_block t b row c.args.wear has
     ((λ i. use_of (record row { state = (now ∙ sym state) i })) ∙ (λ i. record { is_free = (sym was i).is_free; is_kept = (sym was i).is_kept; wear = c.args.wear }))
     (λ k. refl) (λ rising. shut_risen row (shut_after c.args.names)))

@@ -22,7 +22,7 @@ use Rattle.nl_meta.proofs.OnLiterals.{meta_on_literals}
 use Rattle.nl_meta.proofs.Lists.{some_in}
 use Rattle.nl_meta.proofs.WalkProofs.{walk_is_consistency}
 use Rattle.nl_test_spec_image.specs.Trees.{hello, tree_with_a}
-use Rattle.nl_spec_image.specs.Stands.{bytes_found, Stands}
+use Rattle.nl_spec_image.specs.Stands.{bytes_found, ImageRepresents}
 use Rattle.nl_spec_image.proofs.SoundProofs.{metadata_stands}
 use Rattle.nl_test_spec_image.proofs.trees.a_stands.Goals as goal
 
@@ -73,7 +73,7 @@ cap_is = refl
 found : Consistent (image_of_a hello_page)
 found = (walk_is_consistency (image_of_a hello_page)).0 no_fault
 
-some_tree : (tree : Tree) × Stands (image_of_a hello_page) found.metadata.super_rec.count tree
+some_tree : (tree : Tree) × ImageRepresents (image_of_a hello_page) found.metadata.super_rec.count tree
 some_tree = metadata_stands (image_of_a hello_page) is_whole found.metadata
 
 pub returns : goal.returns

@@ -4,7 +4,7 @@ use Rattle.nl_spec_headline.specs.Status.{DoneStatus, RunFailed}
 use Rattle.nl_spec_headline.specs.Streams.{medium, stream}
 use Rattle.nl_top.specs.Leaving.{leaves_within}
 use Rattle.nl_top.specs.RunEnds.{RunEnds, not_run}
-use Rattle.nl_top.specs.Telling.{Shows, told_text}
+use Rattle.nl_top.specs.Telling.{PrintsCourse, told_text}
 use Rattle.nl_top.proofs.Left.{same_leaves}
 use Rattle.nl_top.proofs.Told.{room_for, was_told}
 use Rattle.nl_top.proofs.running.run_on.Goals as goal
@@ -73,6 +73,6 @@ returns-in-Ok-run_lines g c =
     (λ i. (before.0 i, before.1 i)) c.tell.ensures.status in
     let told = was_told m.tells lines (leaves_within m media end) old new start last rows ran.lost ran.worn ran.charges r.0
     ran.count c.tell.result.status r.2 r.1 what c.placed_rows_are_a_run.ensures c.tell.result.order.items c.tell.result.syncs.items c.tell.ensures.order c.tell.ensures.syncs c.tell.ensures.prints done in
-    subst (λ (x : g.row.M.Denot). RunEnds m.tells lines (Shows what m.tells) (leaves_within m media x) old new start
+    subst (λ (x : g.row.M.Denot). RunEnds m.tells lines (PrintsCourse what m.tells) (leaves_within m media x) old new start
     (medium (m.geometry x) (m.contents x) (m.clock x) (m.read_faults x) (m.write_faults x)) c.tell.result.order.items c.tell.result.syncs.items c.tell.result.status)
     (sym c.tell.ensures.media) told

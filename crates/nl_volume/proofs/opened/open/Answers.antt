@@ -2,7 +2,7 @@ use Rattle.std.proofs.Common.{◌≡◌, [], ap, sym, ◌∙◌}
 use Rattle.nl_device.specs.Medium.{medium_of}
 use Rattle.nl_field.specs.Medium.{shape_of_image}
 use Rattle.nl_field.specs.Numbers.{shape_for}
-use Rattle.nl_spec_image.specs.Stands.{SoundAs}
+use Rattle.nl_spec_image.specs.Stands.{ConsistentAs}
 use Rattle.nl_volume.proofs.Opens.{not_sound}
 use Rattle.nl_volume.proofs.Trees.{sound_as_it, tree_of}
 use Rattle.nl_volume.proofs.opened.open.Goals as goal
@@ -12,7 +12,7 @@ returns-in-Opened-clause-opened g c =
     let v = c.in-Opened.volume.core in
     let e = c.in-Opened.ensures in
     let image = g.M.Nand.contents c.args.media in
-    let sound : g.M.Nand.tells → SoundAs image v.count (tree_of image) = λ t. let k = e.sound t in sound_as_it image v.count k.0 k.1 in
+    let sound : g.M.Nand.tells → ConsistentAs image v.count (tree_of image) = λ t. let k = e.sound t in sound_as_it image v.count k.0 k.1 in
     let numbers = (e.stands (tree_of image) [] (λ l none. absurd none) sound).0.serves.core.formed.segments.numbers in
     record {
       tree = tree_of image;

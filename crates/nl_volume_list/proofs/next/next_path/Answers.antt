@@ -3,8 +3,8 @@ use Rattle.nl_core.specs.Core.{running_of}
 use Rattle.nl_field.specs.Graph.{Graph}
 use Rattle.nl_calls_steps.proofs.ReadCores.{reads-after, reads-then}
 use Rattle.nl_volume_list.specs.Next.{GaveAt, nodes_of}
-use Rattle.nl_volume_list.specs.Onward.{GoesOn, LeadsOn, path_to}
-use Rattle.nl_volume_list.specs.Walks.{TellsNode, is_path, item_stop}
+use Rattle.nl_volume_list.specs.Onward.{StepsOnward, LeadsOn, path_to}
+use Rattle.nl_volume_list.specs.Walks.{IsItemOfNode, is_path, item_stop}
 use Rattle.nl_volume_list.specs.declared.walk.Onward.{Onward}
 use Rattle.nl_volume_list.proofs.Giving.{gives-last, gives-next, gives-root}
 use Rattle.nl_volume_list.proofs.Walking.{nodes-stay, way-after, way-stays}
@@ -36,7 +36,7 @@ go_to-requires-clause-leads g c =
     let v = c.args.core.now in
     let w = c.place_of.new.core in
     let on = c.in-Ok-Some.ensures.same in
-    let leads : GoesOn (nodes_of G v) c.args.walk.now (Some c.in-Ok-Some.to) = subst (λ (o : Option Onward). GoesOn (nodes_of G v) c.args.walk.now o) c.in-Ok-Some.field-0-is c.in-Ok-Some.ensures.place in
+    let leads : StepsOnward (nodes_of G v) c.args.walk.now (Some c.in-Ok-Some.to) = subst (λ (o : Option Onward). StepsOnward (nodes_of G v) c.args.walk.now o) c.in-Ok-Some.field-0-is c.in-Ok-Some.ensures.place in
     let stay = nodes-stay G v w c.device_stands.ensures.volume on in
     subst (λ (n : Graph). LeadsOn n c.args.walk.now c.in-Ok-Some.to) (sym stay) leads
 
@@ -52,7 +52,7 @@ returns-in-Ok-Some-clause-way g c =
     let v = c.args.core.now in
     let w = c.place_of.new.core in
     let on = c.in-Ok-Some.ensures.same in
-    let leads : GoesOn (nodes_of G v) c.args.walk.now (Some c.in-Ok-Some.to) = subst (λ (o : Option Onward). GoesOn (nodes_of G v) c.args.walk.now o) c.in-Ok-Some.field-0-is c.in-Ok-Some.ensures.place in
+    let leads : StepsOnward (nodes_of G v) c.args.walk.now (Some c.in-Ok-Some.to) = subst (λ (o : Option Onward). StepsOnward (nodes_of G v) c.args.walk.now o) c.in-Ok-Some.field-0-is c.in-Ok-Some.ensures.place in
     let stay = nodes-stay G v w c.device_stands.ensures.volume on in
     let gave = λ (y : is_path c.go_to.result ≡ true). subst (λ (n : Graph). GaveAt n c.args.walk.now c.go_to.new.walk (path_to c.args.walk.now c.in-Ok-Some.to)) stay (c.go_to.ensures.gave y) in
     way-after G v c.go_to.new.core c.device_stands.ensures.volume (reads-then G v w c.device_stands.ensures.volume on c.go_to.new.core c.go_to.ensures.same) c.args.walk.now c.go_to.new.walk (path_to c.args.walk.now c.in-Ok-Some.to) (is_path c.go_to.result) c.requires.way gave c.go_to.ensures.stays
@@ -63,10 +63,10 @@ returns-in-Ok-Some-clause-gives g c =
     let v = c.args.core.now in
     let w = c.place_of.new.core in
     let on = c.in-Ok-Some.ensures.same in
-    let leads : GoesOn (nodes_of G v) c.args.walk.now (Some c.in-Ok-Some.to) = subst (λ (o : Option Onward). GoesOn (nodes_of G v) c.args.walk.now o) c.in-Ok-Some.field-0-is c.in-Ok-Some.ensures.place in
+    let leads : StepsOnward (nodes_of G v) c.args.walk.now (Some c.in-Ok-Some.to) = subst (λ (o : Option Onward). StepsOnward (nodes_of G v) c.args.walk.now o) c.in-Ok-Some.field-0-is c.in-Ok-Some.ensures.place in
     let stay = nodes-stay G v w c.device_stands.ensures.volume on in
     let gave = λ (y : is_path c.go_to.result ≡ true). subst (λ (n : Graph). GaveAt n c.args.walk.now c.go_to.new.walk (path_to c.args.walk.now c.in-Ok-Some.to)) stay (c.go_to.ensures.gave y) in
-    let told = subst (λ (n : Graph). TellsNode (n c.in-Ok-Some.to.entry.ino).body c.go_to.result) stay c.go_to.ensures.told in
+    let told = subst (λ (n : Graph). IsItemOfNode (n c.in-Ok-Some.to.entry.ino).body c.go_to.result) stay c.go_to.ensures.told in
     λ page_of_stamp tree runs. gives-next (G.shape v.device) (running_of G v) page_of_stamp tree runs.runs c.args.walk.now c.go_to.new.walk (path_to c.args.walk.now c.in-Ok-Some.to) c.in-Ok-Some.to.entry.ino c.go_to.result
     (c.has_begun.ensures.some c.if-not-has_begun.false) leads.next leads.reached told gave
 
@@ -86,7 +86,7 @@ pub returns-in-Ok-None-clause-gives : goal.returns-in-Ok-None-clause-gives
 returns-in-Ok-None-clause-gives g c =
     let G = g.D.Counts in
     let v = c.args.core.now in
-    let last : GoesOn (nodes_of G v) c.args.walk.now None = subst (λ (o : Option Onward). GoesOn (nodes_of G v) c.args.walk.now o) c.in-Ok-None.field-0-is c.in-Ok-None.ensures.place in
+    let last : StepsOnward (nodes_of G v) c.args.walk.now None = subst (λ (o : Option Onward). StepsOnward (nodes_of G v) c.args.walk.now o) c.in-Ok-None.field-0-is c.in-Ok-None.ensures.place in
     λ page_of_stamp tree runs. gives-last (G.shape v.device) (running_of G v) page_of_stamp tree runs.runs c.args.walk.now c.args.walk.now (c.has_begun.ensures.some c.if-not-has_begun.false) last
 
 pub returns-in-Err-clause-way : goal.returns-in-Err-clause-way

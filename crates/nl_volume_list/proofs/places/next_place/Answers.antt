@@ -2,7 +2,7 @@ use Rattle.std.proofs.Common.{◌≡◌, ℕ, List, [], Option, Some, None, leng
 use Rattle.nl_field.specs.Graph.{Graph}
 use Rattle.nl_field.specs.declared.entry.EntryRec.{EntryRec}
 use Rattle.nl_meta.specs.Nodes.{graph_of}
-use Rattle.nl_meta_running.specs.Running.{IsUsed, running_on}
+use Rattle.nl_meta_running.specs.Running.{IsUsedNode, running_on}
 use Rattle.nl_meta_running.proofs.Holds.{bounds-of}
 use Rattle.nl_meta_running.proofs.Kept.{kept-then, runs-then}
 use Rattle.nl_volume_list.specs.Entries.{HasLeastBehind, HasNoneBehind, LeastBehind}
@@ -18,7 +18,7 @@ least_behind-requires-clause-used g c =
     let k = c.len-kept.result in
     let whole : k ≡ length c.args.walk.now.path = c.len-kept.ensures.count ∙ ap (λ (p : List (List ℕ)). length p) c.path.ensures in
     let u = used-at g.D.Counts c.args.device.now c.args.meta.now c.requires.runs b (take k c.args.walk.now.path) (get_or c.args.walk.now.nodes k 0) (node-at (graph_of (g.D.Counts.shape c.args.device.now) (running_on g.D.Counts c.args.device.now c.args.meta.now)) c.args.walk.now c.requires.way c.requires.begun k (omega (arith, whole))) in
-    subst (λ (ns : List ℕ). IsUsed g.D.Counts c.args.device.now c.args.meta.now (get_or ns k 0)) (sym c.nodes.ensures) u
+    subst (λ (ns : List ℕ). IsUsedNode g.D.Counts c.args.device.now c.args.meta.now (get_or ns k 0)) (sym c.nodes.ensures) u
 
 pub place_beside-requires-clause-runs : goal.place_beside-requires-clause-runs
 place_beside-requires-clause-runs g c =

@@ -3,7 +3,7 @@ use Rattle.std.specs.Prelude.{slice_get}
 use Rattle.nl_field.specs.Graph.{Graph}
 use Rattle.nl_field.specs.declared.entry.EntryRec.{EntryRec}
 use Rattle.nl_meta.specs.Nodes.{graph_of}
-use Rattle.nl_meta_running.specs.Running.{IsUsed, running_on}
+use Rattle.nl_meta_running.specs.Running.{IsUsedNode, running_on}
 use Rattle.nl_meta_running.proofs.Holds.{bounds-of}
 use Rattle.nl_meta_running.proofs.Kept.{kept-then, runs-then, used-on}
 use Rattle.nl_volume_list.specs.Entries.{HasLeastBehind, HasNoneBehind, LeastBehind}
@@ -25,7 +25,7 @@ least_behind-requires-clause-used g c =
     let few = c.loop-kept.invariant.few in
     let low : j ≤ length c.args.walk.now.path = omega (arith, t, few) in
     let u = used-at g.D.Counts c.args.device.now c.args.meta.now c.requires.runs b (take j c.args.walk.now.path) (get_or c.args.walk.now.nodes j 0) (node-at (graph_of (g.D.Counts.shape c.args.device.now) (running_on g.D.Counts c.args.device.now c.args.meta.now)) c.args.walk.now c.requires.way c.requires.begun j low) in
-    subst (λ (ns : List ℕ). IsUsed g.D.Counts c.loop-kept.device c.loop-kept.meta (get_or ns j 0)) (sym c.nodes.ensures) (u.0, used-on g.D.Counts c.args.device.now c.args.meta.now c.loop-kept.device c.loop-kept.meta b c.loop-kept.invariant.kept (get_or c.args.walk.now.nodes j 0) u.0 u.1)
+    subst (λ (ns : List ℕ). IsUsedNode g.D.Counts c.loop-kept.device c.loop-kept.meta (get_or ns j 0)) (sym c.nodes.ensures) (u.0, used-on g.D.Counts c.args.device.now c.args.meta.now c.loop-kept.device c.loop-kept.meta b c.loop-kept.invariant.kept (get_or c.args.walk.now.nodes j 0) u.0 u.1)
 
 pub returns-in-Ok-Some-clause-place : goal.returns-in-Ok-Some-clause-place
 returns-in-Ok-Some-clause-place g c =

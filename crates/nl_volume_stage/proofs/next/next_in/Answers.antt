@@ -1,7 +1,7 @@
 use Rattle.std.proofs.Common.{⊎_elim, inl, subst}
-use Rattle.nl_namespace.specs.Paths.{IfAt, Looks}
+use Rattle.nl_namespace.specs.Paths.{IfNodeAt, Looks}
 use Rattle.nl_namespace.specs.declared.answer.Look.{Look}
-use Rattle.nl_meta_running.specs.Running.{IsUsed}
+use Rattle.nl_meta_running.specs.Running.{IsUsedNode}
 use Rattle.nl_calls_steps.specs.Finding.{nodes_of}
 use Rattle.nl_calls_steps.proofs.OnlyReads.{still-used}
 use Rattle.nl_calls_steps.proofs.ReadCores.{reads-then}
@@ -12,7 +12,7 @@ pub next_at-requires-clause-used : goal.next_at-requires-clause-used
 next_at-requires-clause-used g c =
     let G = g.D.Counts in
     let u = c.args.core.now in
-    still-used G u c.look_up.new.core c.device_stands.ensures.volume c.look_up.ensures.same c.in-At.ino (subst (λ (r : Look). IfAt r (IsUsed G u.device u.meta)) c.in-At.is c.look_up.ensures.used)
+    still-used G u c.look_up.new.core c.device_stands.ensures.volume c.look_up.ensures.same c.in-At.ino (subst (λ (r : Look). IfNodeAt r (IsUsedNode G u.device u.meta)) c.in-At.is c.look_up.ensures.used)
 
 pub returns-in-At-clause-same : goal.returns-in-At-clause-same
 returns-in-At-clause-same g c =

@@ -4,7 +4,7 @@ use Rattle.std.specs.Prelude.{IsTrue}
 use Rattle.nl_tree.specs.Event.{is_whole}
 use Rattle.std.proofs.Common.{inr}
 use Rattle.nl_calls_bytes.specs.Ranges.{from_of, len_of, path_of}
-use Rattle.nl_volume_stage.specs.Staging.{IfPage, IsNext, IsNextIn}
+use Rattle.nl_volume_stage.specs.Staging.{IfPage, IsNextTag, IsNextIn}
 use Rattle.nl_volume_stage.proofs.Left.{none_whole}
 use Rattle.nl_volume_stage.proofs.Given.{if_page, next_fill, next_write}
 use Rattle.nl_calls_steps.proofs.ReadCores.{reads-none}
@@ -13,14 +13,14 @@ use Rattle.nl_volume_stage.proofs.next.next_of.Goals as goal
 pub returns-in-Write-clause-page : goal.returns-in-Write-clause-page
 returns-in-Write-clause-page g c =
     let w = c.in-Write in
-    if_page c.next_in.result (λ tag. (tag.index ≡ div_ceil w.from 4096 + c.args.place) × IsTrue (is_whole w.from (length w.bytes) tag.index)) (IsNext c.args.call.now c.args.place)
+    if_page c.next_in.result (λ tag. (tag.index ≡ div_ceil w.from 4096 + c.args.place) × IsTrue (is_whole w.from (length w.bytes) tag.index)) (IsNextTag c.args.call.now c.args.place)
     (λ tag at. next_write c.args.call.now w.path w.from w.bytes c.args.place tag w.is at)
     (subst (λ bytes. IfPage c.next_in.result (λ tag. (tag.index ≡ div_ceil w.from 4096 + c.args.place) × IsTrue (is_whole w.from (length bytes) tag.index))) c.bytes.ensures c.next_in.ensures.page)
 
 pub returns-in-Fill-clause-page : goal.returns-in-Fill-clause-page
 returns-in-Fill-clause-page g c =
     let w = c.in-Fill in
-    if_page c.next_in-in-Fill.result (λ tag. (tag.index ≡ div_ceil w.from 4096 + c.args.place) × IsTrue (is_whole w.from w.len tag.index)) (IsNext c.args.call.now c.args.place)
+    if_page c.next_in-in-Fill.result (λ tag. (tag.index ≡ div_ceil w.from 4096 + c.args.place) × IsTrue (is_whole w.from w.len tag.index)) (IsNextTag c.args.call.now c.args.place)
     (λ tag at. next_fill c.args.call.now w.path w.from w.len w.field-3 c.args.place tag w.is at)
     (subst (λ len. IfPage c.next_in-in-Fill.result (λ tag. (tag.index ≡ div_ceil w.from 4096 + c.args.place) × IsTrue (is_whole w.from len tag.index))) c.from.ensures c.next_in-in-Fill.ensures.page)
 

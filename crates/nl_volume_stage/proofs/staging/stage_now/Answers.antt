@@ -3,7 +3,7 @@ use Rattle.nl_flight.specs.Flight.{IsFlight}
 use Rattle.nl_core.specs.declared.state.Core.{Core}
 use Rattle.nl_calls_bytes.specs.Ranges.{from_of, len_of, path_of}
 use Rattle.nl_tree.specs.declared.turn.Stage.TheVariants as stage
-use Rattle.nl_volume_stage.specs.Staging.{IsNext, IsNextIn, StagesOn, TellsLeft}
+use Rattle.nl_volume_stage.specs.Staging.{IsNextTag, IsNextIn, StagesOn, TellsLeft}
 use Rattle.nl_volume_stage.specs.declared.next.Next.TheVariants as next
 use Rattle.nl_volume_stage.proofs.Few.{few_staged}
 use Rattle.nl_volume_stage.proofs.Flights.{faults_on}
@@ -95,7 +95,7 @@ returns-in-Page-clause-left g c =
     let call = c.args.call.now in
     let tag = c.in-Page.tag in
     let count = c.flying-place.ensures in
-    tells_page G s.0 s.1 s.2 u s.3 c.args.worker c.args.line call s.4 s.5 c.requires.line tag (subst (λ n. IsNext call n tag) count e.page)
+    tells_page G s.0 s.1 s.2 u s.3 c.args.worker c.args.line call s.4 s.5 c.requires.line tag (subst (λ n. IsNextTag call n tag) count e.page)
     (subst (λ n. IsNextIn G u (path_of call) (from_of call) (len_of call) n (next.Page tag)) count e.left) c.stage_page.new.core c.stage_page.result
     (passes_then G c.args.worker c.args.line call u v c.stage_page.new.core c.stage_page.result
     (passes_reads G c.args.worker c.args.line u v s.4.serves.core c.device_stands.ensures.volume e.core.formed c.device_stands-2.ensures.pages c.counts.ensures e.same) c.stage_page.ensures.stages)

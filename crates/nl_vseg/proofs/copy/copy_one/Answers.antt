@@ -12,7 +12,7 @@ use Rattle.nl_vseg.specs.Copies.{CopiesTo}
 use Rattle.nl_vseg.specs.Copying.{AreTargets}
 use Rattle.nl_vseg.specs.Layout.{ArePlaces}
 use Rattle.nl_vseg.specs.Used.{used_of}
-use Rattle.nl_vseg.specs.Answers.{IsLost}
+use Rattle.nl_vseg.specs.Answers.{IsLostWrite}
 use Rattle.nl_vseg.proofs.Places.{named_by, next_placed, none_by, used_placed, place_here, place_other, block_below}
 use Rattle.nl_vseg.proofs.Copied.{can_next, copies_none, uses_next, uses_none}
 use Rattle.nl_vseg.proofs.Copies.{used_below, target_program, not_copied, copied_at, room_left, targets_more, targets_grown, copied_holds, copied_map, copied_erased, copied_changed}
@@ -129,7 +129,7 @@ returns-in-Lost g c =
       done = λ done. absurd (lost_done _ _ done);
       places = record { count = refl; stamps = λ u. refl; same = λ u other. refl; moved = λ done. absurd (lost_done _ _ done) };
       targets = record { size = refl; targets = λ done. absurd (lost_done _ _ done); grown = λ k page is. inl is };
-      changed = λ t. absurd (c.copy_page.ensures.kept t (subst IsLost (sym c.in-Lost.is) tt));
+      changed = λ t. absurd (c.copy_page.ensures.kept t (subst IsLostWrite (sym c.in-Lost.is) tt));
       lost = λ w f is. let l = c.copy_page.ensures.lost w f (c.in-Lost.is ∙ is) in (ap stamp_in_place named ∙ ap Some (sym l.0), λ found. l.1 (found ∙ l.0));
       medium = subst (λ a. CopiesTo g.M.Nand c.args.pages c.args.target c.args.wear a c.args.media.now c.copy_page.new.media) c.in-Lost.is (record {
         operates = λ wears is. c.copy_page.ensures.operates c.args.pages wears (ap (λ n. get_or wears n 0) (ap (λ n. n / c.args.pages) at ∙ div-mul-add c.args.target c.args.pages used room) ∙ is);

@@ -4,7 +4,7 @@ use Rattle.nl_field.specs.declared.answers.VirtualRead.TheVariants as read
 use Rattle.nl_field.specs.declared.answers.VirtualWrite.TheVariants as write
 use Rattle.nl_field.specs.declared.spare.SpareRec.TheVariants.{Virtual}
 use Rattle.nl_field.proofs.SpareRecord.{spare-spelled}
-use Rattle.nl_nand.specs.Nand.{Cut, Leaves}
+use Rattle.nl_nand.specs.Nand.{Cut, OperationLeaves}
 use Rattle.nl_nand.specs.declared.answers.WriteAnswer.{WriteAnswer}
 use Rattle.nl_nand.proofs.Crashes.{leaves_cut, leaves_done, operation, still, then}
 use Rattle.nl_vseg.specs.Answers.{ReadsPage}
@@ -32,9 +32,9 @@ cut_none low high value old new is = subst (λ (x : Image). Cut low high value o
 
 -- the page that was read is programmed
 copied_leaves : (to v s w : ℕ) (page : Page) (buf : PageBytes) (old read new : Image) (answer : WriteAnswer) → page ≡ written buf → read ≡ old
-    → Leaves to (to + 1) (written (page_with buf.main v s w)) read answer new → Leaves to (to + 1) (copy_of page v s w) old answer new
+    → OperationLeaves to (to + 1) (written (page_with buf.main v s w)) read answer new → OperationLeaves to (to + 1) (copy_of page v s w) old answer new
 copied_leaves to v s w page buf old read new answer is same leaves =
-    subst (λ (x : Page). Leaves to (to + 1) (copy_of x v s w) old answer new) (sym is) (subst (λ (x : Image). Leaves to (to + 1) (written (page_with buf.main v s w)) x answer new) same leaves)
+    subst (λ (x : Page). OperationLeaves to (to + 1) (copy_of x v s w) old answer new) (sym is) (subst (λ (x : Image). OperationLeaves to (to + 1) (written (page_with buf.main v s w)) x answer new) same leaves)
 
 copied_cut : (to v s w : ℕ) (page : Page) (buf : PageBytes) (old read : Image) → page ≡ written buf → read ≡ old
     → (new : Image) → Cut to (to + 1) (written (page_with buf.main v s w)) read new → Cut to (to + 1) (copy_of page v s w) old new
@@ -81,7 +81,7 @@ returns-in-Done-program_page g c =
     let page = page_at (g.M.Nand.contents c.args.media.now) c.args.place.page in
     let r = c.read_page.ensures in
     let w = c.program_page.ensures in
-    let leaves : (t : g.M.Nand.tells) → Leaves c.args.to (c.args.to + 1) (copy_of page c.args.vaddr c.args.place.stamp c.args.wear) (g.M.Nand.contents c.args.media.now) c.program_page.result (g.M.Nand.contents c.program_page.new.media) = (λ t.
+    let leaves : (t : g.M.Nand.tells) → OperationLeaves c.args.to (c.args.to + 1) (copy_of page c.args.vaddr c.args.place.stamp c.args.wear) (g.M.Nand.contents c.args.media.now) c.program_page.result (g.M.Nand.contents c.program_page.new.media) = (λ t.
     copied_leaves c.args.to c.args.vaddr c.args.place.stamp c.args.wear page c.read_page.new.buf _ _ _ c.program_page.result (subst (ReadsPage page c.args.place.stamp c.read_page.new.buf) c.in-Done.is (r.answer t)) r.only_reads.same_contents (w.effect t)) in
     record {
       filled = λ t done. leaves_done c.args.to (c.args.to + 1) _ _ c.program_page.result _ c.in-Done-program_page.is (leaves t);
@@ -106,7 +106,7 @@ returns-in-Failed g c =
     let page = page_at (g.M.Nand.contents c.args.media.now) c.args.place.page in
     let r = c.read_page.ensures in
     let w = c.program_page.ensures in
-    let leaves : (t : g.M.Nand.tells) → Leaves c.args.to (c.args.to + 1) (copy_of page c.args.vaddr c.args.place.stamp c.args.wear) (g.M.Nand.contents c.args.media.now) c.program_page.result (g.M.Nand.contents c.program_page.new.media) = (λ t.
+    let leaves : (t : g.M.Nand.tells) → OperationLeaves c.args.to (c.args.to + 1) (copy_of page c.args.vaddr c.args.place.stamp c.args.wear) (g.M.Nand.contents c.args.media.now) c.program_page.result (g.M.Nand.contents c.program_page.new.media) = (λ t.
     copied_leaves c.args.to c.args.vaddr c.args.place.stamp c.args.wear page c.read_page.new.buf _ _ _ c.program_page.result (subst (ReadsPage page c.args.place.stamp c.read_page.new.buf) c.in-Done.is (r.answer t)) r.only_reads.same_contents (w.effect t)) in
     record {
       filled = λ t done. absurd (fault_done done);

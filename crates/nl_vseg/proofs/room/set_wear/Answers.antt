@@ -2,7 +2,7 @@ use Rattle.std.proofs.Common.{◌<◌, true, false, refl, sym, ◌∙◌, ap, su
 use Rattle.nl_blocks.specs.declared.states.BlockState.TheVariants.{Free, Sealed}
 use Rattle.nl_blocks.specs.Table.{BlockRow, Table, block_at, in_state}
 use Rattle.nl_blocks.proofs.TableLaws.{block_at-with_block_same}
-use Rattle.nl_vseg.specs.Copying.{Restated}
+use Rattle.nl_vseg.specs.Copying.{SetsFree}
 use Rattle.nl_vseg.specs.Used.{IsClosed}
 use Rattle.nl_vseg.proofs.Using.{closed_then, closed_with}
 use Rattle.nl_vseg.proofs.Blocks.{has_block, other_row, restated, restated_again, restated_same}
@@ -11,24 +11,24 @@ use Rattle.nl_vseg.proofs.room.set_wear.Goals as goal
 pub returns-clause-states : goal.returns-clause-states
 returns-clause-states c =
     let old = c.args.blocks.now in
-    let one = subst (Restated c.args.block true old) (sym c.freed.ensures) (restated old c.args.block (in_state (block_at old c.args.block) Free) c.requires.first c.requires.within) in
+    let one = subst (SetsFree c.args.block true old) (sym c.freed.ensures) (restated old c.args.block (in_state (block_at old c.args.block) Free) c.requires.first c.requires.within) in
     let first_1 = one.numbers.same_first ∙ c.requires.first in
     let within_1 = subst (λ n. c.args.block < n) (sym one.numbers.same_count) c.requires.within in
-    let two = subst (Restated c.args.block true c.freed.new.self) (sym c.found-2.ensures)
+    let two = subst (SetsFree c.args.block true c.freed.new.self) (sym c.found-2.ensures)
     (restated c.freed.new.self c.args.block (record { state = Free; wear = c.args.wear; pages = (block_at c.freed.new.self c.args.block).pages }) first_1 within_1) in
     let first_2 = two.numbers.same_first ∙ first_1 in
     let within_2 = subst (λ n. c.args.block < n) (sym two.numbers.same_count) within_1 in
-    let three = subst (Restated c.args.block false c.found-2.new.self) (sym c.seal.ensures)
+    let three = subst (SetsFree c.args.block false c.found-2.new.self) (sym c.seal.ensures)
     (restated c.found-2.new.self c.args.block (in_state (block_at c.found-2.new.self c.args.block) Sealed) first_2 within_2) in
     restated_same (sym c.is_free.ensures ∙ c.if-is_free.false) (restated_again (restated_again one two) three)
 
 pub returns-clause-wear : goal.returns-clause-wear
 returns-clause-wear c =
     let old = c.args.blocks.now in
-    let one = subst (Restated c.args.block true old) (sym c.freed.ensures) (restated old c.args.block (in_state (block_at old c.args.block) Free) c.requires.first c.requires.within) in
+    let one = subst (SetsFree c.args.block true old) (sym c.freed.ensures) (restated old c.args.block (in_state (block_at old c.args.block) Free) c.requires.first c.requires.within) in
     let first_1 = one.numbers.same_first ∙ c.requires.first in
     let within_1 = subst (λ n. c.args.block < n) (sym one.numbers.same_count) c.requires.within in
-    let two = subst (Restated c.args.block true c.freed.new.self) (sym c.found-2.ensures)
+    let two = subst (SetsFree c.args.block true c.freed.new.self) (sym c.found-2.ensures)
     (restated c.freed.new.self c.args.block (record { state = Free; wear = c.args.wear; pages = (block_at c.freed.new.self c.args.block).pages }) first_1 within_1) in
     let first_2 = two.numbers.same_first ∙ first_1 in
     let within_2 = subst (λ n. c.args.block < n) (sym two.numbers.same_count) within_1 in
@@ -42,7 +42,7 @@ pub returns-clause-others : goal.returns-clause-others
 returns-clause-others c other ne =
     let old = c.args.blocks.now in
     let block = c.args.block in
-    let one = subst (Restated block true old) (sym c.freed.ensures) (restated old block (in_state (block_at old block) Free) c.requires.first c.requires.within) in
+    let one = subst (SetsFree block true old) (sym c.freed.ensures) (restated old block (in_state (block_at old block) Free) c.requires.first c.requires.within) in
     let first_1 = one.numbers.same_first ∙ c.requires.first in
     let row_2 : BlockRow = record { state = Free; wear = c.args.wear; pages = (block_at c.freed.new.self block).pages } in
     let first_2 = ap (λ (t : Table). t.first) c.found-2.ensures ∙ first_1 in
@@ -62,11 +62,11 @@ returns-clause-used c =
     let old = c.args.blocks.now in
     let block = c.args.block in
     let row_1 : BlockRow = in_state (block_at old block) Free in
-    let one = subst (Restated block true old) (sym c.freed.ensures) (restated old block row_1 c.requires.first c.requires.within) in
+    let one = subst (SetsFree block true old) (sym c.freed.ensures) (restated old block row_1 c.requires.first c.requires.within) in
     let first_1 = one.numbers.same_first ∙ c.requires.first in
     let within_1 = subst (λ n. block < n) (sym one.numbers.same_count) c.requires.within in
     let row_2 : BlockRow = record { state = Free; wear = c.args.wear; pages = (block_at c.freed.new.self block).pages } in
-    let two = subst (Restated block true c.freed.new.self) (sym c.found-2.ensures) (restated c.freed.new.self block row_2 first_1 within_1) in
+    let two = subst (SetsFree block true c.freed.new.self) (sym c.found-2.ensures) (restated c.freed.new.self block row_2 first_1 within_1) in
     let first_2 = two.numbers.same_first ∙ first_1 in
     let within_2 = subst (λ n. block < n) (sym two.numbers.same_count) within_1 in
     let row_3 : BlockRow = in_state (block_at c.found-2.new.self block) Sealed in

@@ -1,6 +1,6 @@
 use Rattle.std.proofs.Common.{set, refl, sym, ◌∙◌, ap, subst}
 use Rattle.nl_blocks.specs.Table.{block_at, worn, worn_row}
-use Rattle.nl_vseg.specs.Copying.{SameUse}
+use Rattle.nl_vseg.specs.Copying.{SameFreeBlocks}
 use Rattle.nl_vseg.specs.Layout.{wears_of}
 use Rattle.nl_vseg.specs.Used.{KeepsUsed}
 use Rattle.nl_vseg.proofs.Using.{kept_with}
@@ -12,7 +12,7 @@ use Rattle.nl_vseg.proofs.room.wear_out.Goals as goal
 pub returns-clause-states : goal.returns-clause-states
 returns-clause-states c =
     let old = c.args.blocks.now in
-    subst (SameUse old) (sym c.reerased.ensures) (restated_same refl (restated old c.args.block (worn_row (block_at old c.args.block)) c.requires.first c.requires.within))
+    subst (SameFreeBlocks old) (sym c.reerased.ensures) (restated_same refl (restated old c.args.block (worn_row (block_at old c.args.block)) c.requires.first c.requires.within))
 
 pub returns-clause-worn : goal.returns-clause-worn
 returns-clause-worn c =

@@ -1,6 +1,6 @@
 use Rattle.std.proofs.Common.{rules, ◌≡◌, ◌++◌, ◌∷◌, [], ◌<◌, List, length, sym, subst}
 use Rattle.nl_workers.specs.Worked.{MayWork}
-use Rattle.nl_workers.specs.Crew.{MayStart, HasRun}
+use Rattle.nl_workers.specs.Crew.{MayStart, CrewHasRun}
 use Rattle.nl_workers.specs.declared.station.Station.{Station}
 use Rattle.nl_workers.proofs.Crewing.{none_ran, may_work, may_go_on, own_ran, may_work_own, may_start_left, thread_ran}
 use Rattle.nl_workers.proofs.crew.+fn-run_crew-join+arg3+run_crew.Goals as goal
@@ -9,7 +9,7 @@ pub returns-in_default-clause-ran : goal.returns-in_default-clause-ran
 returns-in_default-clause-ran g t c =
     let none : c.args.stations.items ≡ [] = search rules in
     let left : c.pop.new.self.items ≡ c.args.stations.items = search rules in
-    subst (λ (xs : List Station). HasRun g.V.Served.tells c.args.lines.now c.args.span.from c.args.span.to c.args.seat c.args.stations.items c.args.seat xs) (sym left)
+    subst (λ (xs : List Station). CrewHasRun g.V.Served.tells c.args.lines.now c.args.span.from c.args.span.to c.args.seat c.args.stations.items c.args.seat xs) (sym left)
     (none_ran g.V.Served.tells c.args.lines.now c.args.span.from c.args.span.to c.args.seat c.args.stations.items none c.requires.may)
 
 pub work-seat-requires-clause-may : goal.work-seat-requires-clause-may
@@ -32,7 +32,7 @@ returns-then-not-needs_thread-clause-ran g t c =
     let pushed : c.push_reserved.new.self.items ≡ c.run_crew-seat.result.1.items ++ c.work-seat.result.1 ∷ [] = search rules in
     let ran = own_ran g.V.Served.tells c.args.lines.now c.args.span.from c.args.span.to c.len-worker.result c.args.seat c.in-Some.station more (subst (MayStart g.V.Served.tells c.args.lines.now c.args.span.from c.args.span.to c.args.seat) all c.requires.may) (search rules)
     c.work-seat.result.0 c.work-seat.result.1 c.work-seat.ensures c.run_crew-seat.result.0 c.run_crew-seat.result.1.items c.run_crew-seat.ensures.ran in
-    subst (λ (z : List Station × List Station). HasRun g.V.Served.tells c.args.lines.now c.args.span.from c.args.span.to c.args.seat z.0 c.run_crew-seat.result.0 z.1) (λ i. (sym all i, sym pushed i)) ran
+    subst (λ (z : List Station × List Station). CrewHasRun g.V.Served.tells c.args.lines.now c.args.span.from c.args.span.to c.args.seat z.0 c.run_crew-seat.result.0 z.1) (λ i. (sym all i, sym pushed i)) ran
 
 pub join-own-requires-after_bounds : goal.join-own-requires-after_bounds
 join-own-requires-after_bounds g t c κs within =
@@ -68,4 +68,4 @@ returns-clause-ran g t c =
     let count : c.len-worker.result ≡ length more = search rules in
     let ran = thread_ran g.V.Served.tells lines c.args.span.from c.args.span.to c.len-worker.result seat c.in-Some.station more start count c.in-Some-split.own c.split.new.seat s.given s.seat.1 s.numbers.1
     first.0 second.0 after first.1 second.1.items s.seat.0 c.join-own.ensures.first c.join-own.ensures.second.0 j.seat j.grows j.own j.theirs j.joined j.numbers in
-    subst (λ (z : List Station × List Station). HasRun g.V.Served.tells lines c.args.span.from c.args.span.to seat z.0 after z.1) (λ i. (sym all i, sym pushed i)) ran
+    subst (λ (z : List Station × List Station). CrewHasRun g.V.Served.tells lines c.args.span.from c.args.span.to seat z.0 after z.1) (λ i. (sym all i, sym pushed i)) ran

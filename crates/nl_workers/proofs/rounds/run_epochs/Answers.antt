@@ -1,5 +1,5 @@
 use Rattle.std.proofs.Common.{◌≡◌, length, arith, subst}
-use Rattle.nl_workers.specs.Going.{IsGoing}
+use Rattle.nl_workers.specs.Going.{IsUnderWay}
 use Rattle.nl_workers.proofs.Going.{may_start, goes_on}
 use Rattle.nl_workers.proofs.rounds.run_epochs.Goals as goal
 
@@ -20,4 +20,4 @@ returns g c =
     let past = c.loop-from-test.false in
     let count = c.len.ensures.count in
     let end : c.loop-from.from ≡ length c.args.lines.now = omega arith in
-    subst (λ n. IsGoing g.V.Served.tells c.args.turns.now.name c.args.notices.now c.args.lines.now c.args.crew.seat n c.loop-from.crew) end i
+    subst (λ n. IsUnderWay g.V.Served.tells c.args.turns.now.name c.args.notices.now c.args.lines.now c.args.crew.seat n c.loop-from.crew) end i

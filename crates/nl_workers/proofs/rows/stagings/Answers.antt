@@ -9,7 +9,7 @@ use Rattle.nl_turns.specs.Examples.{dir_a, three_lines}
 use Rattle.nl_turns.specs.Seat.{Passed, passed_by}
 use Rattle.nl_turns.specs.Served.{stage_entry, effect_entry}
 use Rattle.nl_workers.specs.Examples.{one_done}
-use Rattle.nl_workers.specs.Placed.{HasEffect}
+use Rattle.nl_workers.specs.Placed.{LineTookEffect}
 use Rattle.nl_workers.proofs.Epochs.{stands_at}
 use Rattle.nl_workers.proofs.rows.stagings.Goals as goal
 
@@ -25,21 +25,21 @@ line_three = record { line = 3; round = 0; worker = 0; call = Stat [] }
 not_so : false ≡ true → ⊥
 not_so e = cc e
 
-none_first : (i : ℕ) (earlier : Line) → slice_get three_lines i ≡ Some earlier → IsTrue (has_to_precede earlier line_one) → HasEffect earlier.line []
+none_first : (i : ℕ) (earlier : Line) → slice_get three_lines i ≡ Some earlier → IsTrue (has_to_precede earlier line_one) → LineTookEffect earlier.line []
 none_first zero earlier e t = let h : line_one ≡ earlier = cc e in absurd (not_so (subst (λ l. IsTrue (has_to_precede l line_one)) (sym h) t))
 none_first (suc zero) earlier e t = let h : line_two ≡ earlier = cc e in absurd (not_so (subst (λ l. IsTrue (has_to_precede l line_one)) (sym h) t))
 none_first (suc (suc zero)) earlier e t = let h : line_three ≡ earlier = cc e in absurd (not_so (subst (λ l. IsTrue (has_to_precede l line_one)) (sym h) t))
 none_first (suc (suc (suc i))) earlier e t = absurd (cc e)
 
-one_first : (i : ℕ) (earlier : Line) → slice_get three_lines i ≡ Some earlier → IsTrue (has_to_precede earlier line_three) → HasEffect earlier.line one_done
+one_first : (i : ℕ) (earlier : Line) → slice_get three_lines i ≡ Some earlier → IsTrue (has_to_precede earlier line_three) → LineTookEffect earlier.line one_done
 one_first zero earlier e t = let h : line_one ≡ earlier = cc e in
-    subst (λ (l : Line). HasEffect l.line one_done) h
+    subst (λ (l : Line). LineTookEffect l.line one_done) h
     (record { before = passed_by 3 (stage_entry 1 Whole) ∷ []; entry = passed_by 3 (effect_entry 1 Done); after = []; split = refl; line_is = refl })
 one_first (suc zero) earlier e t = let h : line_two ≡ earlier = cc e in absurd (not_so (subst (λ l. IsTrue (has_to_precede l line_three)) (sym h) t))
 one_first (suc (suc zero)) earlier e t = let h : line_three ≡ earlier = cc e in absurd (not_so (subst (λ l. IsTrue (has_to_precede l line_three)) (sym h) t))
 one_first (suc (suc (suc i))) earlier e t = absurd (cc e)
 
-no_effect : (line : ℕ) → HasEffect line [] → ⊥
+no_effect : (line : ℕ) → LineTookEffect line [] → ⊥
 no_effect line h = go h.before h.entry h.after h.split
   where
     go : (before : List Passed) (entry : Passed) (after : List Passed) → before ++ entry ∷ after ≡ [] → ⊥

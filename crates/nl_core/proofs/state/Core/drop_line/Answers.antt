@@ -1,7 +1,7 @@
 use Rattle.std.proofs.Common.{sym, subst, refl, List}
 use Rattle.nl_flight.specs.Flight.{InFlight, of_worker}
 use Rattle.nl_core.specs.Core.{IsCore}
-use Rattle.nl_core.specs.Goes.{Goes}
+use Rattle.nl_core.specs.Goes.{PreservesVolume}
 use Rattle.nl_core.specs.Dropping.{DropsLine, FreesLine}
 use Rattle.nl_core.proofs.Dropped.{dropped_core, dropped_goes}
 use Rattle.nl_core.proofs.state.Core.drop_line.Goals as goal
@@ -18,6 +18,6 @@ returns g c =
     let frees : FreesLine G (of_worker v.flight worker) v.device d = record { freed = e.freed; kept = e.kept; read_faults = e.read_faults } in
     record {
       core = subst (λ (xs : List InFlight). IsCore G (record v { device = d; flight = xs })) (sym c.clear.ensures.cleared) (dropped_core G v d worker c.requires.known frees c.requires.core first.volume first.differ pages c.free_line.ensures.formed);
-      goes = subst (λ (xs : List InFlight). Goes G 0 v (record v { device = d; flight = xs })) (sym c.clear.ensures.cleared) (dropped_goes G v d worker c.requires.known frees c.requires.core first.volume first.differ pages);
+      goes = subst (λ (xs : List InFlight). PreservesVolume G 0 v (record v { device = d; flight = xs })) (sym c.clear.ensures.cleared) (dropped_goes G v d worker c.requires.known frees c.requires.core first.volume first.differ pages);
       dropped = subst (λ (xs : List InFlight). DropsLine G worker v (record v { device = d; flight = xs })) (sym c.clear.ensures.cleared) (record { frees = frees; flight = refl; others = refl });
     }

@@ -4,7 +4,7 @@ use Rattle.nl_tree.specs.declared.turn.DutyAnswer.{DutyAnswer}
 use Rattle.nl_tree.specs.declared.turn.DutyAnswer.TheVariants as duty
 use Rattle.nl_core_callbacks.specs.declared.draining.Drained.TheVariants as drained
 use Rattle.nl_journal.specs.declared.answers.Committing.{Committing}
-use Rattle.nl_core.specs.Calls.{Commits, CommitsAll}
+use Rattle.nl_core.specs.Calls.{CommitsByAnswer, CommitsAll}
 use Rattle.nl_core.specs.Core.{begun_of}
 use Rattle.nl_core.specs.Handling.{HandlesWithRoom}
 use Rattle.nl_core.proofs.HandledNumber.{fault_only, with_room}
@@ -23,7 +23,7 @@ returns-in-Done-clause-handles g c =
     let u = c.commit.new.self in
     let w = c.handle_once-tried.new.self in
     let e = c.handle_once-tried.ensures in
-    let all : CommitsAll G v u c.in-Done.field-0 = subst (λ (a : Committing). Commits G v u a) c.in-Done.is c.commit.ensures.commits in
+    let all : CommitsAll G v u c.in-Done.field-0 = subst (λ (a : Committing). CommitsByAnswer G v u a) c.in-Done.is c.commit.ensures.commits in
     subst (λ (d : DutyAnswer). HandlesWithRoom G c.args.number v w d) (sym c.answer_of.ensures)
     (with_room G (begun_of u + 1) c.args.number c.in-Done.field-0 v u w c.handle_once-tried.result e.tries all
     (λ none. ⊎_elim (λ z. z) (λ off. absurd (off (sym (e.goes.stops.stands off) ∙ none))) (cases_eq u.stopped 0)))

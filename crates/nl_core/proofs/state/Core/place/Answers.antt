@@ -1,6 +1,6 @@
 use Rattle.std.proofs.Common.{ap, subst, sym, ◌∙◌}
 use Rattle.nl_iface.specs.Calls.{StoresPages}
-use Rattle.nl_core.specs.Programming.{Programs}
+use Rattle.nl_core.specs.Programming.{ProgramsNewName}
 use Rattle.nl_core.specs.declared.state.Core.{Core}
 use Rattle.nl_core.proofs.state.Core.place.Goals as goal
 
@@ -15,7 +15,7 @@ returns-clause-programs g c =
     let s = c.args.self.now.device in
     let t = c.nameless_write-answer.new.self in
     let e = c.nameless_write-answer.ensures in
-    subst (λ (d : g.row.D.Denot). Programs G c.args.tag c.args.from.now.main c.nameless_write-answer.result s d) (sym (ap (λ (x : Core g.row.D.Denot). x.device) c.note_fault.ensures))
+    subst (λ (d : g.row.D.Denot). ProgramsNewName G c.args.tag c.args.from.now.main c.nameless_write-answer.result s d) (sym (ap (λ (x : Core g.row.D.Denot). x.device) c.note_fault.ensures))
     (record {
       not_live = e.not_live;
       no_page = e.no_page;

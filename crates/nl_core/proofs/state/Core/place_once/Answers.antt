@@ -1,7 +1,7 @@
 use Rattle.std.proofs.Common.{◌∙◌, ap, subst, sym, List}
-use Rattle.nl_flight.specs.Flight.{HasPlace, InFlight}
+use Rattle.nl_flight.specs.Flight.{HasFlightRoom, InFlight}
 use Rattle.nl_core.specs.Core.{IsCore}
-use Rattle.nl_core.specs.Goes.{Goes}
+use Rattle.nl_core.specs.Goes.{PreservesVolume}
 use Rattle.nl_core.specs.Programming.{PutsPage, with_page}
 use Rattle.nl_core.specs.declared.state.Core.{Core}
 use Rattle.nl_core.proofs.Placed.{if_off, is_spelled, none_cause, none_core, none_goes, put_core, put_goes, put_page, puts_none}
@@ -9,7 +9,7 @@ use Rattle.nl_core.proofs.state.Core.place_once.Goals as goal
 
 pub put_page-requires-clause-place : goal.put_page-requires-clause-place
 put_page-requires-clause-place g c =
-    subst (λ (xs : List InFlight). HasPlace xs c.args.worker) (sym (ap (λ (x : Core g.row.D.Denot). x.flight) c.place.ensures.others)) c.requires.place
+    subst (λ (xs : List InFlight). HasFlightRoom xs c.args.worker) (sym (ap (λ (x : Core g.row.D.Denot). x.flight) c.place.ensures.others)) c.requires.place
 
 pub returns-in-Placed-clause-core : goal.returns-in-Placed-clause-core
 returns-in-Placed-clause-core g c =
@@ -29,7 +29,7 @@ returns-in-Placed-clause-goes g c =
     let w = c.place.new.self in
     let e = c.place.ensures in
     let lines = c.put_page.ensures.put ∙ ap (λ (xs : List InFlight). with_page xs c.args.worker c.args.line c.args.tag c.in-Placed.at) (ap (λ (x : Core g.row.D.Denot). x.flight) e.others) in
-    subst (λ (xs : List InFlight). Goes G 1 v (record w { flight = xs })) (sym lines)
+    subst (λ (xs : List InFlight). PreservesVolume G 1 v (record w { flight = xs })) (sym lines)
     (put_goes G v w c.args.tag c.args.from.now.main c.place.result e.programs e.others c.requires.core e.volume c.requires.writes e.map e.stores c.in-Placed.at c.in-Placed.is c.args.worker c.args.line c.requires.known c.requires.some c.requires.place e.numbers)
 
 pub returns-in-Placed-clause-placed : goal.returns-in-Placed-clause-placed

@@ -1,7 +1,7 @@
 use Rattle.std.proofs.Common.{◌≡◌, ◌∙◌, ◌^◌, ap, map}
 use Rattle.nl_core_clean.specs.declared.cleaning.Cleaned.TheVariants as cleaned
 use Rattle.nl_core_callbacks.specs.Handled.{nameless_line}
-use Rattle.nl_core.specs.Rounds.{EmptiesTable, RoundIsDone}
+use Rattle.nl_core.specs.Rounds.{EmptiesTable, ReclaimPassIsDone}
 use Rattle.nl_core.specs.declared.state.Core.{Core}
 use Rattle.nl_core.proofs.Onward.{cause_then, goes_then}
 use Rattle.nl_core.proofs.Rounding.{round_is_done, rounded_to}
@@ -65,6 +65,6 @@ returns-in_default g c =
       core = e.core;
       goes = e.goes;
       lines = e.lines;
-      rounds = rounded_to G.tells (EmptiesTable G u v) (RoundIsDone G g.D.MovingPages u v) c.empty_table.result (λ is h. absurd (c.in_default.not-Done is)) e.emptied;
+      rounds = rounded_to G.tells (EmptiesTable G u v) (ReclaimPassIsDone G g.D.MovingPages u v) c.empty_table.result (λ is h. absurd (c.in_default.not-Done is)) e.emptied;
       faults = e.faults;
     }

@@ -1,9 +1,9 @@
 use Rattle.std.proofs.Common.{◌≡◌, ◌∙◌, ap, sym, subst, refl, length}
 use Rattle.std.specs.Prelude.{IfSome}
-use Rattle.nl_spec_commits.specs.TreeLaws.{moment_of}
+use Rattle.nl_spec_commits.specs.TreeLaws.{last_commit_moment}
 use Rattle.nl_journal.specs.Left.{CommitWrites}
 use Rattle.nl_journal.specs.Progress.{HasNumber}
-use Rattle.nl_journal_commit.specs.Committing.{ChangesAt, Commits, EarlierAt}
+use Rattle.nl_journal_commit.specs.Committing.{ChangesAt, CommitsWhole, EarlierAt}
 use Rattle.nl_journal_commit.specs.Counting.{with_count}
 use Rattle.nl_field.specs.declared.answers.VirtualWrite.TheVariants as write
 use Rattle.nl_iface.specs.Calls.{StoresPages}
@@ -34,11 +34,11 @@ returns-clause-written g c =
       meta = now;
       stopped = stopped;
       committed = committed_by v.committed c.frozen_count-frozen.result v.count done.earlier done.decided;
-      moment = moment_of v.moment done.earlier done.decided;
+      moment = last_commit_moment v.moment done.earlier done.decided;
     } in
     let same : c.note_moments.new.self ≡ w =
     c.note_moments.ensures
-    ∙ ap (λ (x : Core g.row.D.Denot). record x { committed = committed_by x.committed c.frozen_count-frozen.result x.count done.earlier done.decided; moment = moment_of x.moment done.earlier done.decided }) c.note_fault.ensures in
+    ∙ ap (λ (x : Core g.row.D.Denot). record x { committed = committed_by x.committed c.frozen_count-frozen.result x.count done.earlier done.decided; moment = last_commit_moment x.moment done.earlier done.decided }) c.note_fault.ensures in
     subst (λ (x : Core g.row.D.Denot). WritesAll G v x done.answer) (sym same)
     (record {
       earlier = done.earlier;
@@ -48,7 +48,7 @@ returns-clause-written g c =
       moment = refl;
       stopped = ap (λ n. stopped_by v.stopped (G.read_faults t) n (G.write_faults t)) c.write_faults-faults.ensures;
       stands = e.stands;
-      commits = subst (λ n. Commits G (done.answer ≡ write.Done) done.earlier done.decided v.device v.journal (with_count v.shape n v.meta) t r now) count e.commits;
+      commits = subst (λ n. CommitsWhole G (done.answer ≡ write.Done) done.earlier done.decided v.device v.journal (with_count v.shape n v.meta) t r now) count e.commits;
       earlier_at = subst (λ n. IfSome done.earlier (EarlierAt G v.device t v.journal r (with_count v.shape n v.meta) now)) count e.earlier;
       decided_at = subst (λ n. IfSome done.decided (ChangesAt G v.device t v.journal r (with_count v.shape n v.meta) now)) count e.decided;
       writes = subst (λ n. G.tells → HasNumber r (length now.frozen.addresses) → CommitWrites G (done.answer ≡ write.Done) v.journal r (with_count v.shape n v.meta) now v.device t) count e.writes;

@@ -7,8 +7,8 @@ use Rattle.nl_field.specs.declared.shape.Shape.{Shape}
 use Rattle.nl_nand.specs.declared.geometry.Geometry.{Geometry}
 use Rattle.nl_device.proofs.Bounds.{two_blocks}
 use Rattle.nl_nand.specs.Nand.{ImageOf}
-use Rattle.nl_scan.specs.Tables.{FitsMedium, IsTableOf, Table}
-use Rattle.nl_vseg.specs.Pages.{Shows}
+use Rattle.nl_scan.specs.Tables.{FitsMedium, IsTableOf, ScanTable}
+use Rattle.nl_vseg.specs.Pages.{PageShows}
 use Rattle.nl_vseg.specs.Places.{map_of}
 use Rattle.nl_device.specs.Device.{IsDevice}
 use Rattle.nl_device.specs.Kept.{KeptPages}
@@ -35,7 +35,7 @@ numbers_of shape seen before e same = let x = for_shape shape seen.blocks seen.p
 legal_of : (shape : Shape) (seen before : Geometry) → shape ≡ shape_for seen.blocks seen.pages → seen ≡ before → IsTrue (is_legal before.blocks before.pages) → IsTrue (is_legal shape.blocks shape.pages)
 legal_of shape seen before e same legal = subst (λ (n : Geometry). IsTrue (is_legal n.blocks n.pages)) (numbers_of shape seen before e same) legal
 
-fits_of : (shape : Shape) (seen before : Geometry) (t : Table) → shape ≡ shape_for seen.blocks seen.pages → seen ≡ before → FitsMedium before t → FitsShape shape t
+fits_of : (shape : Shape) (seen before : Geometry) (t : ScanTable) → shape ≡ shape_for seen.blocks seen.pages → seen ≡ before → FitsMedium before t → FitsShape shape t
 fits_of shape seen before t e same fits = subst (λ (n : Geometry). FitsMedium n t) (numbers_of shape seen before e same) fits
 
 roomy_of : (shape : Shape) (seen before : Geometry) → shape ≡ shape_for seen.blocks seen.pages → seen ≡ before → IsTrue (is_legal before.blocks before.pages) → ShapeBounds shape
@@ -77,7 +77,7 @@ returns-in-Ok-clause-nothing g c =
     can_none c.in-Ok.field-0.kept shape.pblocks (ap (λ (k : KeptPages). k.count) c.in-Ok.ensures.kept) (omega (arith, two))
 
 -- the tables are of the medium as it is after the scan
-module _ (image before : Image) (t : Table) where
+module _ (image before : Image) (t : ScanTable) where
   table_now : image ≡ before → IsTableOf before t → IsTableOf image t
   table_now same is = subst (λ (i : Image). IsTableOf i t) (sym same) is
 
@@ -143,4 +143,4 @@ returns-in-Ok-clause-agreed g c tell agree v x below stray =
     let image = g.M.Nand.contents media in
     let e = image_shape shape c.geometry.result (g.M.Nand.geometry media) image c.legal_shape-shape.ensures (c.geometry.ensures ∙ sym c.scan.ensures.only_reads.same_geometry) (g.met.M.Nand.contents_fit media tell) in
     stray.newer (opened_agreed image t (table_now image (g.M.Nand.contents c.args.media) t c.scan.ensures.only_reads.same_contents (c.in-Tables.ensures.tables tell)) agree vseg (subst (λ s. IsOpenedVirtual s t vseg) (sym e) c.in-Ok.ensures.virtuals) v x.0 x.1
-    (subst (λ (s : Shape). v < s.vaddrs) (sym e) below) (subst (λ (s : Shape). Shows (first_physical s) image v x.0 x.1) (sym e) stray.shown))
+    (subst (λ (s : Shape). v < s.vaddrs) (sym e) below) (subst (λ (s : Shape). PageShows (first_physical s) image v x.0 x.1) (sym e) stray.shown))

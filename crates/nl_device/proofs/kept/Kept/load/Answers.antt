@@ -4,10 +4,10 @@ use Rattle.std.proofs.lemmas.Bool.{cases_eq}
 use Rattle.std.proofs.lemmas.Option.{none-some, same_Some}
 use Rattle.nl_field.specs.Spelling.{is_stamp}
 use Rattle.nl_pseg.specs.Segment.{IsOldName, held_at}
-use Rattle.nl_device.specs.Kept.{IsKept, place_among}
+use Rattle.nl_device.specs.Kept.{AreKeptPages, place_among}
 use Rattle.nl_callbacks.specs.Pending.{callback_of}
 use Rattle.nl_device.specs.Posting.{Posts}
-use Rattle.nl_device.specs.Retain.{Loads, no_tag, placed_at, tag_on}
+use Rattle.nl_device.specs.Retain.{LoadsPointer, no_tag, placed_at, tag_on}
 use Rattle.nl_device.specs.declared.kept.page.KeptPage.{KeptPage}
 use Rattle.nl_device.proofs.Loading.{in_segment, placed, there}
 use Rattle.nl_device.proofs.kept.Kept.load.Goals as goal
@@ -17,13 +17,13 @@ returns-in_default c = absurd (none-some c.requires.can.page (sym c.in_default.i
 
 pub returns-in_default-page : goal.returns-in_default-page
 returns-in_default-page c =
-    let is = subst (λ k. IsKept k c.self.inside.copies) c.self.view_is c.self.invariant in
+    let is = subst (λ k. AreKeptPages k c.self.inside.copies) c.self.view_is c.self.invariant in
     let t = there c.args.self.now c.self.inside.copies c.args.spare c.args.at.now c.in-Some.page is (sym c.place.ensures ∙ c.in-Some.is) in
     absurd (none-some t.kept_page (sym c.in_default-page.is ∙ c.page.ensures ∙ t.found))
 
 pub load-requires-clause-dead : goal.load-requires-clause-dead
 load-requires-clause-dead c =
-    let is = subst (λ k. IsKept k c.self.inside.copies) c.self.view_is c.self.invariant in
+    let is = subst (λ k. AreKeptPages k c.self.inside.copies) c.self.view_is c.self.invariant in
     let place : place_among c.args.self.now c.args.spare c.args.at.now ≡ Some c.in-Some.page = sym c.place.ensures ∙ c.in-Some.is in
     let e : c.requires.can.page ≡ c.in-Some.page = same_Some c.requires.can.page c.in-Some.page (sym c.requires.can.place ∙ place) in
     let t = there c.args.self.now c.self.inside.copies c.args.spare c.args.at.now c.in-Some.page is place in
@@ -36,7 +36,7 @@ load-requires-clause-dead c =
 
 pub load-requires-clause-stamp : goal.load-requires-clause-stamp
 load-requires-clause-stamp c =
-    let is = subst (λ k. IsKept k c.self.inside.copies) c.self.view_is c.self.invariant in
+    let is = subst (λ k. AreKeptPages k c.self.inside.copies) c.self.view_is c.self.invariant in
     let t = there c.args.self.now c.self.inside.copies c.args.spare c.args.at.now c.in-Some.page is (sym c.place.ensures ∙ c.in-Some.is) in
     subst (λ n. IsTrue (is_stamp n)) t.stamp t.of.spelled
 
@@ -56,7 +56,7 @@ returns-clause-loaded c =
     let e : placed_at c.args.self.now c.args.spare c.args.at.now ≡ c.in-Some.page = placed c.args.self.now c.args.spare c.args.at.now c.in-Some.page place in
     let found : Some c.in-Some-page.kept ≡ find (λ (k : KeptPage). k.page == c.in-Some.page) c.args.self.now.pages = sym c.in-Some-page.is ∙ c.page.ensures in
     let l = c.load.ensures in
-    subst (λ n. Loads c.args.self.now n c.args.at.now c.args.pseg.now c.load.new.self) (sym e) (record {
+    subst (λ n. LoadsPointer c.args.self.now n c.args.at.now c.args.pseg.now c.load.new.self) (sym e) (record {
       live = l.loads.held ∙ ap (λ o. set c.args.pseg.now.held c.in-Some.page (option_map (λ (k : KeptPage). record { tag = k.tag; stamp = c.args.at.now.stamp }) o)) found;
       leads = l.loads.leads;
       names = l.loads.ways;

@@ -3,7 +3,7 @@ use Rattle.std.proofs.Common.{All, Global, Vec, arith, length, nat_cmp, ◌+◌,
 use Rattle.std.specs.BTreeMap.{get}
 use Rattle.std.specs.List.{AllPairs}
 use Rattle.nl_scan.specs.Tables.{IsSeen}
-use Rattle.nl_device.specs.Kept.{AreNoted, IsOfSegment, copies_of, kept_pages}
+use Rattle.nl_device.specs.Kept.{CopiesAreNoted, IsOfSegment, copies_of, kept_pages}
 use Rattle.nl_device.specs.declared.kept.page.KeptPage.{KeptPage}
 use Rattle.nl_device.proofs.Gathered.{kept_all, kept_none, kept_push, kept_rising, kept_skip, kept_within}
 use Rattle.nl_device.proofs.Noting.{noted_more, noted_none}
@@ -15,7 +15,7 @@ seen-init c =
     record {
       low_is = refl;
       gathered = c.new-pages.ensures.items ∙ sym (kept_none (c.args.shape.now.vblocks * c.args.shape.now.pages) c.args.tables.now.seen);
-      are_noted = subst (λ l. AreNoted c.args.shape.now.pages l c.new-copies.result) (sym c.new-pages.ensures.items) (noted_none c.args.shape.now.pages c.new-copies.result c.new-copies.ensures.empty);
+      are_noted = subst (λ l. CopiesAreNoted c.args.shape.now.pages l c.new-copies.result) (sym c.new-pages.ensures.items) (noted_none c.args.shape.now.pages c.new-copies.result c.new-copies.ensures.empty);
     }
 
 pub seen-preserved : goal.seen-preserved

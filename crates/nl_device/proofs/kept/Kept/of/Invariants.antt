@@ -1,5 +1,5 @@
 use Rattle.std.proofs.Common.{◌≡◌, ◌*◌, take}
-use Rattle.nl_device.specs.Kept.{AreNoted, kept_pages}
+use Rattle.nl_device.specs.Kept.{CopiesAreNoted, kept_pages}
 use Rattle.nl_device.proofs.kept.Kept.of.Given as goal
 
 abbrev pub invariant-seen : goal.invariant-seen
@@ -7,5 +7,5 @@ invariant-seen l =
     record {
       low_is : l.low ≡ l.shape.vblocks * l.shape.pages;
       gathered : l.pages.items ≡ kept_pages l.low (take l.at l.tables.seen);
-      are_noted : AreNoted l.shape.pages l.pages.items l.copies;
+      are_noted : CopiesAreNoted l.shape.pages l.pages.items l.copies;
     }

@@ -1,6 +1,6 @@
 use Rattle.std.proofs.Common.{◌^◌, ◌<◌, subst, sym}
-use Rattle.nl_device.specs.Kept.{IsKept}
-use Rattle.nl_device.specs.Retain.{CanLoad, IsCalled, Loads, placed_at, spare_for}
+use Rattle.nl_device.specs.Kept.{AreKeptPages}
+use Rattle.nl_device.specs.Retain.{CanLoadPointer, IsCalled, LoadsPointer, placed_at, spare_for}
 use Rattle.nl_device.proofs.CallsMade.{called_more, called_none}
 use Rattle.nl_device.proofs.Retaining.{can_load, loaded_more, loaded_none}
 use Rattle.nl_device.proofs.kept.Kept.retain.Goals as goal
@@ -13,20 +13,20 @@ listed-init c = record {
 
 pub load-requires-clause-can : goal.load-requires-clause-can
 load-requires-clause-can c =
-    let is = subst (λ k. IsKept k c.self.inside.copies) c.self.view_is c.self.invariant in
+    let is = subst (λ k. AreKeptPages k c.self.inside.copies) c.self.view_is c.self.invariant in
     let i = c.listed.invariant in
-    subst (λ k. CanLoad k c.spare-spare.result c.get.result.now c.listed.pseg c.listed.pending) (sym c.spare-spare.ensures.same)
-    (subst (λ o. CanLoad c.args.self.now o c.get.result.now c.listed.pseg c.listed.pending) (sym c.spare-spare.ensures.spare)
+    subst (λ k. CanLoadPointer k c.spare-spare.result c.get.result.now c.listed.pseg c.listed.pending) (sym c.spare-spare.ensures.same)
+    (subst (λ o. CanLoadPointer c.args.self.now o c.get.result.now c.listed.pseg c.listed.pending) (sym c.spare-spare.ensures.spare)
     (can_load c.args.self.now c.self.inside.copies c.args.list.now.items is c.requires.can c.listed.at c.get.result.now c.args.pseg.now c.listed.pseg c.args.pending.now c.listed.pending i.loaded i.called c.get.ensures))
 
 pub listed-preserved : goal.listed-preserved
 listed-preserved c =
-    let is = subst (λ k. IsKept k c.self.inside.copies) c.self.view_is c.self.invariant in
+    let is = subst (λ k. AreKeptPages k c.self.inside.copies) c.self.view_is c.self.invariant in
     let i = c.listed.invariant in
     let p = c.get.result.now in
-    let loads : Loads c.args.self.now (placed_at c.args.self.now (spare_for c.args.self.now c.args.list.now.items) p) p c.listed.pseg c.load.new.pseg =
-    subst (λ o. Loads c.args.self.now (placed_at c.args.self.now o p) p c.listed.pseg c.load.new.pseg) c.spare-spare.ensures.spare
-    (subst (λ k. Loads k (placed_at k c.spare-spare.result p) p c.listed.pseg c.load.new.pseg) c.spare-spare.ensures.same c.load.ensures.loaded) in
+    let loads : LoadsPointer c.args.self.now (placed_at c.args.self.now (spare_for c.args.self.now c.args.list.now.items) p) p c.listed.pseg c.load.new.pseg =
+    subst (λ o. LoadsPointer c.args.self.now (placed_at c.args.self.now o p) p c.listed.pseg c.load.new.pseg) c.spare-spare.ensures.spare
+    (subst (λ k. LoadsPointer k (placed_at k c.spare-spare.result p) p c.listed.pseg c.load.new.pseg) c.spare-spare.ensures.same c.load.ensures.loaded) in
     let calls : IsCalled c.args.self.now (spare_for c.args.self.now c.args.list.now.items) p c.listed.pending c.load.new.pending =
     subst (λ o. IsCalled c.args.self.now o p c.listed.pending c.load.new.pending) c.spare-spare.ensures.spare
     (subst (λ k. IsCalled k c.spare-spare.result p c.listed.pending c.load.new.pending) c.spare-spare.ensures.same c.load.ensures.called) in
@@ -36,4 +36,4 @@ listed-preserved c =
     }
 
 pub returns-clause-kept : goal.returns-clause-kept
-returns-clause-kept c = (c.self.inside.copies, subst (λ k. IsKept k c.self.inside.copies) c.self.view_is c.self.invariant)
+returns-clause-kept c = (c.self.inside.copies, subst (λ k. AreKeptPages k c.self.inside.copies) c.self.view_is c.self.invariant)

@@ -1,7 +1,7 @@
 use Rattle.std.proofs.Common.{◌≡◌, arith, ap, length, map, refl, subst, sym, ◌∙◌}
 use Rattle.std.proofs.lemmas.List.{length-map, take_all}
 use Rattle.nl_field.specs.declared.pointer.Pointer.{Pointer}
-use Rattle.nl_device.specs.Kept.{IsKept, KeptPages}
+use Rattle.nl_device.specs.Kept.{AreKeptPages, KeptPages}
 use Rattle.nl_device.proofs.Alone.{AreMarks, copies_in, marks_more, spare_found, stamp_at}
 use Rattle.nl_device.proofs.kept.Kept.spare.Goals as goal
 
@@ -19,7 +19,7 @@ needed-init c =
 pub mark-requires-clause-within : goal.mark-requires-clause-within
 mark-requires-clause-within c =
     copies_in c.args.self.now c.needed.self-inside.copies c.needed.self-inside.first c.needed.self-inside.size (length c.needed.self-inside.alone.items) c.get.result.now.stamp
-    (subst (IsKept c.args.self.now) (sym c.needed.invariant.same_copies) (subst (λ k. IsKept k c.self.inside.copies) c.self.view_is c.self.invariant))
+    (subst (AreKeptPages c.args.self.now) (sym c.needed.invariant.same_copies) (subst (λ k. AreKeptPages k c.self.inside.copies) c.self.view_is c.self.invariant))
     c.needed.invariant.same_first c.needed.invariant.same_size c.needed.invariant.marks.count
 
 pub needed-preserved : goal.needed-preserved
@@ -32,7 +32,7 @@ needed-preserved c =
       same_copies = c.needed.invariant.same_copies;
       marks = marks_more c.args.self.now c.needed.self-inside.copies c.needed.self-inside.first c.needed.self-inside.size c.needed.self-inside.alone.items c.mark.new.alone.items
           (map (λ p. p.stamp) c.args.list.now.items) c.needed.at c.get.result.now.stamp
-          (subst (IsKept c.args.self.now) (sym c.needed.invariant.same_copies) (subst (λ k. IsKept k c.self.inside.copies) c.self.view_is c.self.invariant))
+          (subst (AreKeptPages c.args.self.now) (sym c.needed.invariant.same_copies) (subst (λ k. AreKeptPages k c.self.inside.copies) c.self.view_is c.self.invariant))
           c.needed.invariant.same_first c.needed.invariant.same_size c.mark.ensures at.0 at.1 c.needed.invariant.marks;
     }
 

@@ -10,11 +10,11 @@ use Rattle.nl_field.specs.declared.pointer.Pointer.{Pointer}
 use Rattle.nl_nand.specs.Nand.{ImageOf}
 use Rattle.nl_iface.specs.Moves.{Copies}
 use Rattle.nl_iface.specs.Stored.{stored_in}
-use Rattle.nl_iface.specs.Space.{Begun}
+use Rattle.nl_iface.specs.Space.{VictimBegun}
 use Rattle.nl_iface.specs.Victims.{StaysOrTakes}
 use Rattle.std.specs.Bool.{OnFalse, OnTrue}
-use Rattle.nl_pseg.specs.Cleaning.{Begins, CrashesMove, IsChosen, Moves, MovesNone}
-use Rattle.nl_pseg.specs.Effects.{Places, Programmed}
+use Rattle.nl_pseg.specs.Cleaning.{BeginsBlock, CrashesMove, IsChosen, MovesLivePage, MovesNone}
+use Rattle.nl_pseg.specs.Effects.{PlacesOnImage, PageIsProgrammed}
 use Rattle.nl_pseg.specs.Pages.{main_of, page_with}
 use Rattle.nl_pseg.specs.declared.held.Held.{Held}
 use Rattle.nl_vseg.specs.Places.{map_of}
@@ -241,7 +241,7 @@ returns-then-began-clause-did g c is =
     let e = c.copy_one-answer.ensures in
     let new = c.copy_one-answer.new.self in
     let r = e.refused c.in-Nothing.is in
-    let b : (block : ℕ) × IsChosen false d.pseg block × Begins block d.pseg c.begin-began.new.self = OnTrue_at c.if-began.true c.begin-began.ensures.begun in
+    let b : (block : ℕ) × IsChosen false d.pseg block × BeginsBlock block d.pseg c.begin-began.new.self = OnTrue_at c.if-began.true c.begin-began.ensures.begun in
     inr (
       record {
         tables = record {
@@ -251,7 +251,7 @@ returns-then-began-clause-did g c is =
           handled = λ n. refl;
           posted = refl;
         };
-        space = subst (λ (s : Physical). Begun (space_of d.pseg) (space_of s)) (sym r.0) (begun b.0 d.pseg c.begin-began.new.self b.2);
+        space = subst (λ (s : Physical). VictimBegun (space_of d.pseg) (space_of s)) (sym r.0) (begun b.0 d.pseg c.begin-began.new.self b.2);
         medium = record {
           virtual = record {
             same_shape = refl;
@@ -320,7 +320,7 @@ returns-in-Moved-clause-did g c is =
     let before = c.in-Moved.before in
     let after = c.in-Moved.after in
     let h : Held = record { tag = c.in-Moved.tag; stamp = c.in-Moved.stamp } in
-    let m : Moves before after h seg new = c.in-Moved.ensures.copies.moved in
+    let m : MovesLivePage before after h seg new = c.in-Moved.ensures.copies.moved in
     let fits = λ (t : g.M.Nand.tells). g.met.M.Nand.contents_fit d.media t in
     let mid = taken_device f fits seg false c.begin-began.result b.begun b.none b.whole b.kept b.segment b.spare in
     let tables = mid_tables d.pseg seg c.begin-began.result b.begun b.none in
@@ -330,7 +330,7 @@ returns-in-Moved-clause-did g c is =
     let one = one_for_one seg.held after before h h below within apart m.dead.dead m.was in
     let bound = d.shape.vblocks * d.shape.pages in
     let bytes = λ (t : g.M.Nand.tells).
-    let k : Programmed seg after (written (page_with (main_of (page_at (g.M.Nand.contents d.media) before)) h.tag h.stamp (wear_of seg (after / seg.size)))) (g.M.Nand.contents d.media) (g.M.Nand.contents c.copy_one-answer.new.media) = (c.in-Moved.ensures.medium t).programmed in
+    let k : PageIsProgrammed seg after (written (page_with (main_of (page_at (g.M.Nand.contents d.media) before)) h.tag h.stamp (wear_of seg (after / seg.size)))) (g.M.Nand.contents d.media) (g.M.Nand.contents c.copy_one-answer.new.media) = (c.in-Moved.ensures.medium t).programmed in
     bytes_from bound (g.M.Nand.contents c.copy_one-answer.new.media) after (subst (λ n. n ≤ after) (begins mid.segments) m.dead.within.0) ∙ (ap main_of k.has
     ∙ sym (bytes_from bound (g.M.Nand.contents d.media) before (subst (λ n. n ≤ before) (begins mid.segments) (mid.live.in_segment before h m.was).0))) in
     inl (record {
@@ -403,7 +403,7 @@ returns-in-Moved-clause-left g c t =
     let before = c.in-Moved.before in
     let after = c.in-Moved.after in
     let h : Held = record { tag = c.in-Moved.tag; stamp = c.in-Moved.stamp } in
-    let m : Moves before after h seg new = c.in-Moved.ensures.copies.moved in
+    let m : MovesLivePage before after h seg new = c.in-Moved.ensures.copies.moved in
     let fits = λ (t : g.M.Nand.tells). g.met.M.Nand.contents_fit d.media t in
     let mid = taken_device f fits seg false c.begin-began.result b.begun b.none b.whole b.kept b.segment b.spare in
     let tables = mid_tables d.pseg seg c.begin-began.result b.begun b.none in
@@ -420,9 +420,9 @@ returns-in-Moved-clause-left g c t =
     let is_h : h ≡ k.h = k.moved.1 in
     let is_page : after ≡ k.crash.page = ap (λ (at : Pointer). at.name) k.crash.named in
     let fit = subst (λ n. ImageOf n image_now) e.geometry (g.met.M.Nand.contents_fit c.copy_one-answer.new.media t) in
-    let there = λ (image : Image) (here : ImageOf (g.M.Nand.geometry d.media) image) (places : Places seg k.crash.page k.h.tag k.h.stamp (main_of (page_at image_was k.before)) image_was image).
+    let there = λ (image : Image) (here : ImageOf (g.M.Nand.geometry d.media) image) (places : PlacesOnImage seg k.crash.page k.h.tag k.h.stamp (main_of (page_at image_was k.before)) image_was image).
     ap (stored_in image).named is_page ∙ (copy_there mid t (fits t) k.before k.crash.page k.h k.was image here places ∙ (λ i. Some (record { tag = (sym is_h i).tag; stamp = (sym is_h i).stamp; bytes = bytes_at bound image_was (sym is_before i) }))) in
-    let x : Programmed seg after (written (page_with (main_of (page_at image_was before)) h.tag h.stamp (wear_of seg (after / seg.size)))) image_was image_now = (c.in-Moved.ensures.medium t).programmed in
+    let x : PageIsProgrammed seg after (written (page_with (main_of (page_at image_was before)) h.tag h.stamp (wear_of seg (after / seg.size)))) image_was image_now = (c.in-Moved.ensures.medium t).programmed in
     let bytes : bytes_at bound image_now after ≡ bytes_at bound image_was before = bytes_from bound image_now after (subst (λ n. n ≤ after) (begins mid.segments) m.dead.within.0) ∙ (ap main_of x.has
     ∙ sym (bytes_from bound image_was before (subst (λ n. n ≤ before) (begins mid.segments) (mid.live.in_segment before h m.was).0))) in
     inl (record {
@@ -579,9 +579,9 @@ pub returns-in-Fault-clause-faults : goal.returns-in-Fault-clause-faults
 returns-in-Fault-clause-faults g c = copy_counted c.copy_one-answer.ensures.counts (λ fault. c.in-Fault.is) (λ fault. refl)
 
 -- the victim is that of before, or was chosen
-taken : (old mid new : Physical) (began : Bool) → OnTrue began ((block : ℕ) × IsChosen false old block × Begins block old mid) → OnFalse began (mid ≡ old) → new.victim ≡ mid.victim → StaysOrTakes (IsChosen false old) old.victim new.victim
+taken : (old mid new : Physical) (began : Bool) → OnTrue began ((block : ℕ) × IsChosen false old block × BeginsBlock block old mid) → OnFalse began (mid ≡ old) → new.victim ≡ mid.victim → StaysOrTakes (IsChosen false old) old.victim new.victim
 taken old mid new began begun none same = ⊎_elim
-    (λ (is : began ≡ true). let b : (block : ℕ) × IsChosen false old block × Begins block old mid = OnTrue_at is begun in inr (b.2.none, (b.0, b.1, same ∙ b.2.victim)))
+    (λ (is : began ≡ true). let b : (block : ℕ) × IsChosen false old block × BeginsBlock block old mid = OnTrue_at is begun in inr (b.2.none, (b.0, b.1, same ∙ b.2.victim)))
     (λ (is : began ≡ false). inl (same ∙ ap (λ (s : Physical). s.victim) (OnFalse_at is none)))
     (cases_Bool began)
 

@@ -1,10 +1,10 @@
 use Rattle.std.proofs.Common.{◌≡◌, ◌∙◌, ◌*◌, ◌/◌, is_some, inr, ◌≤◌, ◌<◌, ◌^◌, ℕ, get_or, List, Option, Some, None, inl, refl, sym, ap, subst, arith}
 use Rattle.std.proofs.lemmas.Option.{none-some}
 use Rattle.nl_nand.specs.Nand.{ImageOf}
-use Rattle.nl_pseg.specs.Cleaning.{Erases}
+use Rattle.nl_pseg.specs.Cleaning.{ErasesBlock}
 use Rattle.nl_pseg.specs.Segment.{Physical, held_at, is_kept, is_soiled}
 use Rattle.nl_iface.specs.Space.{Space}
-use Rattle.nl_pseg.specs.Space.{left_of}
+use Rattle.nl_pseg.specs.Space.{left_in_victim}
 use Rattle.nl_iface.specs.declared.moving.Erasing.TheVariants as now
 use Rattle.std.specs.Prelude.{◌↔◌}
 use Rattle.nl_pseg.specs.declared.cleaned.Erasure.TheVariants as the
@@ -51,7 +51,7 @@ returns-in-Done-clause-formed g c =
     let f = c.requires.formed in
     let e = c.erase_victim-erased.ensures in
     let new = c.erase_victim-erased.new.self in
-    let x : (block : ℕ) × Erases block d.pseg new = e.erases.erased c.in-Done.is in
+    let x : (block : ℕ) × ErasesBlock block d.pseg new = e.erases.erased c.in-Done.is in
     let block = x.0 in
     let named = x.1.was in
     let none = x.1.none_left in
@@ -71,7 +71,7 @@ returns-in-Done-clause-left g c t =
     let f = c.requires.formed in
     let e = c.erase_victim-erased.ensures in
     let new = c.erase_victim-erased.new.self in
-    let x : (block : ℕ) × Erases block d.pseg new = e.erases.erased c.in-Done.is in
+    let x : (block : ℕ) × ErasesBlock block d.pseg new = e.erases.erased c.in-Done.is in
     let block = x.0 in
     let named = x.1.was in
     let none = x.1.none_left in
@@ -88,7 +88,7 @@ returns-in-Done-clause-kept g c =
     let f = c.requires.formed in
     let e = c.erase_victim-erased.ensures in
     let new = c.erase_victim-erased.new.self in
-    let x : (block : ℕ) × Erases block d.pseg new = e.erases.erased c.in-Done.is in
+    let x : (block : ℕ) × ErasesBlock block d.pseg new = e.erases.erased c.in-Done.is in
     let block = x.0 in
     let named = x.1.was in
     let none = x.1.none_left in
@@ -204,7 +204,7 @@ returns-in-Done-clause-done g c is =
     let f = c.requires.formed in
     let e = c.erase_victim-erased.ensures in
     let new = c.erase_victim-erased.new.self in
-    let x : (block : ℕ) × Erases block d.pseg new = e.erases.erased c.in-Done.is in
+    let x : (block : ℕ) × ErasesBlock block d.pseg new = e.erases.erased c.in-Done.is in
     record {
       tables = record {
         live = λ q. ap (λ (l : List (Option Held)). live_page (get_or l q None)) x.1.tables.same_held;
@@ -230,7 +230,7 @@ returns-in-Fault-clause-failed g c is =
       same = same_segment d.pseg new (ap (λ (s : Physical). s.first) same) (ap (λ (s : Physical). s.blocks) same) (ap (λ (s : Physical). s.size) same);
       pairs = ap (λ (s : Space). s.pairs) space;
       live = ap (λ (s : Space). s.live) space;
-      left = left_is new ∙ (ap left_of same ∙ x.2);
+      left = left_is new ∙ (ap left_in_victim same ∙ x.2);
       victim = λ none. space;
     }
   where
@@ -317,7 +317,7 @@ returns-in-Done-clause-wiped g c is =
     let f = c.requires.formed in
     let e = c.erase_victim-erased.ensures in
     let new = c.erase_victim-erased.new.self in
-    let x : (block : ℕ) × Erases block d.pseg new = e.erases.erased c.in-Done.is in
+    let x : (block : ℕ) × ErasesBlock block d.pseg new = e.erases.erased c.in-Done.is in
     let image = g.M.Nand.contents d.media in
     let now = g.M.Nand.contents c.erase_victim-erased.new.media in (
       x.0,

@@ -1,7 +1,7 @@
 use Rattle.std.proofs.Common.{◌≡◌, ◌∙◌, ◌+◌, ⊎_elim, true, false, length, refl, sym, ap, subst}
 use Rattle.std.proofs.lemmas.Bool.{OnFalse_at, OnTrue_at, cases_Bool, true≢false}
 use Rattle.std.proofs.lemmas.List.{length-set}
-use Rattle.nl_callbacks.specs.Pending.{PendingTable, entry_at, marked, place_of}
+use Rattle.nl_callbacks.specs.Pending.{PendingTable, entry_at, with_transaction, place_of}
 use Rattle.nl_iface.specs.declared.Callback.{Callback}
 use Rattle.nl_device.specs.Callbacks.{callbacks_of, names_with}
 use Rattle.nl_device.specs.Device.{IsDevice}
@@ -22,7 +22,7 @@ returns-clause-formed g c =
     let at = place_of d.pending.callbacks c.args.number in
     let m = OnTrue_at is e.handled in
     device_called f (called_same d.pseg d.pseg d.pending u f.called (ap (λ (x : PendingTable). callbacks_of x.callbacks) m ∙ marked_list d.pending.callbacks at c.args.transaction) e.table
-    (ap (λ (x : PendingTable). length x.callbacks + x.room) m ∙ ap (λ n. n + d.pending.room) (length-set d.pending.callbacks at (marked (entry_at d.pending.callbacks at) c.args.transaction))) refl refl (λ p h x. x)))
+    (ap (λ (x : PendingTable). length x.callbacks + x.room) m ∙ ap (λ n. n + d.pending.room) (length-set d.pending.callbacks at (with_transaction (entry_at d.pending.callbacks at) c.args.transaction))) refl refl (λ p h x. x)))
     (λ (is : c.handled.result ≡ false). subst (λ p. IsDevice (g.M.Nand.geometry d.media) g.M.Nand.tells (g.M.Nand.contents d.media) d.shape d.vseg d.pseg p d.kept d.next) (sym (OnFalse_at is e.kept)) f)
     (cases_Bool c.handled.result)
 

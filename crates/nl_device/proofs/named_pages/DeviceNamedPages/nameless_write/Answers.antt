@@ -7,7 +7,7 @@ use Rattle.nl_field.specs.declared.pointer.Pointer.{Pointer}
 use Rattle.nl_nand.specs.Nand.{ImageOf}
 use Rattle.nl_iface.specs.Stored.{stored_in}
 use Rattle.nl_pseg.specs.Answers.{IsPlaced}
-use Rattle.nl_pseg.specs.Effects.{Keeps, Places, Programmed}
+use Rattle.nl_pseg.specs.Effects.{PreservesSegment, PlacesOnImage, PageIsProgrammed}
 use Rattle.nl_pseg.specs.Pages.{main_of, page_with}
 use Rattle.nl_pseg.specs.Segment.{IsClean, Physical, held_at, wear_of}
 use Rattle.nl_pseg.specs.declared.held.Held.{Held}
@@ -123,9 +123,9 @@ returns-clause-left g c t =
     let main = c.args.from.now.main in
     let old_fits = g.met.M.Nand.contents_fit d.media t in
     let value : ℕ → Page = λ p. written (page_with main c.args.tag d.next (wear_of d.pseg (p / d.pseg.size))) in
-    let leaves = λ (image : Image) (fits : ImageOf (g.M.Nand.geometry d.media) image) (x : Keeps d.pseg old image ⊎ Places d.pseg k.page c.args.tag d.next main old image).
+    let leaves = λ (image : Image) (fits : ImageOf (g.M.Nand.geometry d.media) image) (x : PreservesSegment d.pseg old image ⊎ PlacesOnImage d.pseg k.page c.args.tag d.next main old image).
     tried_as d.pseg d.pending (leaves_tried (g.M.Nand.geometry d.media) d.shape d.vseg d.pseg old image f.segments old_fits fits f.live (f.medium t).physical_is k.page d.next c.args.tag main f.spare (f.medium t).spare (names_in (f.medium t).pages) x) in
-    let there = λ (image : Image) (fits : ImageOf (g.M.Nand.geometry d.media) image) (x : Places d.pseg k.page c.args.tag d.next main old image).
+    let there = λ (image : Image) (fits : ImageOf (g.M.Nand.geometry d.media) image) (x : PlacesOnImage d.pseg k.page c.args.tag d.next main old image).
     named_has answer k.page d.next (λ n. (stored_in image).named n ≡ Some (record { tag = c.args.tag; stamp = d.next; bytes = main })) k.named
     (programmed_named (g.M.Nand.geometry d.media) d.shape d.vseg d.pseg old image f.segments old_fits fits f.live (f.medium t).physical_is k.page c.args.tag d.next (wear_of d.pseg (k.page / d.pseg.size)) main x.shows x.takes) in
     let fits = subst (λ n. ImageOf n new) e.geometry (g.met.M.Nand.contents_fit c.nameless_write-answer.new.media t) in
@@ -142,9 +142,9 @@ returns-clause-left g c t =
       now = ⊎_elim
           (λ at.
           let e_name : at.0.name ≡ k.page = ap (λ (p : Pointer). p.name) (placed_at answer _ at.0 at.1 k.named) in
-          let programmed = subst (λ n. Programmed d.pseg n (value n) old new) e_name (placed_at answer _ at.0 at.1 (e.medium t).programmed) in
+          let programmed = subst (λ n. PageIsProgrammed d.pseg n (value n) old new) e_name (placed_at answer _ at.0 at.1 (e.medium t).programmed) in
           let live = ap (λ n. held_at seg n) (sym e_name) ∙ now_held at.0 at.1 in
-          let places : Places d.pseg k.page c.args.tag d.next main old new = record {
+          let places : PlacesOnImage d.pseg k.page c.args.tag d.next main old new = record {
             takes = placed_takes (to_takes k.either) refl programmed;
             shows = shown_from c.args.tag d.next _ main (page_at new k.page) programmed.has ((e.medium t).segment.holds k.page (record { tag = c.args.tag; stamp = d.next }) live);
           } in

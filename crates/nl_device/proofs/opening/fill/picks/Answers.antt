@@ -1,6 +1,6 @@
 use Rattle.std.proofs.Common.{◌≡◌, ◌<◌, ◌∙◌, Option, None, List, get_or, length, replicate, sym, ap, subst}
 use Rattle.std.proofs.lemmas.List.{get_or-replicate, length-replicate}
-use Rattle.nl_device.specs.Opening.{filled}
+use Rattle.nl_device.specs.Opening.{with_offers}
 use Rattle.nl_device.specs.declared.opening.own.Own.{Own}
 use Rattle.nl_device.proofs.Picks.{picked}
 use Rattle.nl_device.proofs.opening.fill.picks.Goals as goal
@@ -18,6 +18,6 @@ returns c =
       each = λ v below.
           let start = ap (λ (l : List (Option Own)). get_or l v None) c.in_ok-picks.ensures ∙ get_or-replicate c.args.count v None None below in
           c.fill-2.ensures.each v (subst (λ n. v < n) (sym once) below)
-          ∙ (ap (λ o. filled size None needed o v) (c.fill.ensures.each v (subst (λ n. v < n) (sym before) below) ∙ ap (λ o. filled size spare needed o v) start)
+          ∙ (ap (λ o. with_offers size None needed o v) (c.fill.ensures.each v (subst (λ n. v < n) (sym before) below) ∙ ap (λ o. with_offers size spare needed o v) start)
           ∙ picked size spare needed v);
     }

@@ -7,7 +7,7 @@ use Rattle.nl_field.specs.Numbers.{ShapeBounds}
 use Rattle.nl_field.proofs.Bounds.{bounds}
 use Rattle.nl_device.proofs.Bounds.{some_pages}
 use Rattle.nl_vseg.specs.declared.place.Place.{Place}
-use Rattle.nl_device.specs.Opening.{CanLoad, SaysErased, Tabulates, pick_of, place_on, spread_in}
+use Rattle.nl_device.specs.Opening.{CanLoadAddress, SaysErased, Tabulates, pick_of, place_on, spread_in}
 use Rattle.nl_device.specs.declared.opening.spare.Spread.TheVariants.{Nowhere}
 use Rattle.nl_device.proofs.Opened.{loads, needed_is}
 use Rattle.nl_device.proofs.opening.segments.open_virtual.Goals as goal
@@ -31,7 +31,7 @@ load-requires-clause-picks c v =
       | inr past ↦
           let count = c.in_ok-picks.ensures.count_is in
           let end : length c.in_ok-picks.picks.items ≤ v = omega (arith, count, past) in
-          subst (λ o. IfSome o (CanLoad c.soil_virtual.new.vseg.bound v)) (sym (get_or_past c.in_ok-picks.picks.items v None end)) tt
+          subst (λ o. IfSome o (CanLoadAddress c.soil_virtual.new.vseg.bound v)) (sym (get_or_past c.in_ok-picks.picks.items v None end)) tt
     ]
 
 pub returns : goal.returns

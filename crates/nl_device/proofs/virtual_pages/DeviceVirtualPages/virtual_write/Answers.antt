@@ -4,7 +4,7 @@ use Rattle.nl_field.specs.Page.{Image}
 use Rattle.nl_field.specs.declared.answers.VirtualWrite.TheVariants as write
 use Rattle.nl_iface.specs.Stored.{Value}
 use Rattle.nl_nand.specs.Nand.{ImageOf}
-use Rattle.nl_vseg.specs.Effects.{Keeps, Takes}
+use Rattle.nl_vseg.specs.Effects.{ImageKeepsMap, GainsValue}
 use Rattle.nl_vseg.specs.Places.{map_of, stamp_for}
 use Rattle.nl_device.proofs.Calls.{found_beyond, found_still}
 use Rattle.nl_device.proofs.Laws.{names_are, no_stamp_beyond}
@@ -26,8 +26,8 @@ returns-clause-left g c t =
     let new_is = shape_is f.segments (subst (λ n. ImageOf n new) e.writes.geometry (g.met.M.Nand.contents_fit c.virtual_write-answer.new.media t)) in
     let main = c.args.from.now.main in
     let some = f.segments.some in
-    let keeps = λ (image : Image) (k : Keeps d.vseg.pages d.vseg.bound map old image). subst (λ (x : ℕ). Keeps x (d.shape.vblocks * d.shape.pages) map old image) f.segments.virtual_pages (subst (λ b. Keeps d.vseg.pages b map old image) f.segments.virtual_bound k) in
-    let takes = λ (image : Image) (k : Takes d.vseg.pages d.vseg.bound map c.args.vaddr d.next main old image). subst (λ (x : ℕ). Takes x (d.shape.vblocks * d.shape.pages) map c.args.vaddr d.next main old image) f.segments.virtual_pages (subst (λ b. Takes d.vseg.pages b map c.args.vaddr d.next main old image) f.segments.virtual_bound k) in
+    let keeps = λ (image : Image) (k : ImageKeepsMap d.vseg.pages d.vseg.bound map old image). subst (λ (x : ℕ). ImageKeepsMap x (d.shape.vblocks * d.shape.pages) map old image) f.segments.virtual_pages (subst (λ b. ImageKeepsMap d.vseg.pages b map old image) f.segments.virtual_bound k) in
+    let takes = λ (image : Image) (k : GainsValue d.vseg.pages d.vseg.bound map c.args.vaddr d.next main old image). subst (λ (x : ℕ). GainsValue x (d.shape.vblocks * d.shape.pages) map c.args.vaddr d.next main old image) f.segments.virtual_pages (subst (λ b. GainsValue d.vseg.pages b map c.args.vaddr d.next main old image) f.segments.virtual_bound k) in
     record {
       stops = lift (λ d. d.media) _ _ ((e.writes.value t).crash) (λ m image l turned.
           let image_is = shape_is f.segments (subst (λ n. ImageOf n image) e.writes.geometry (g.met.M.Nand.left_fits c.virtual_write-answer.new.media m image t l)) in
@@ -55,8 +55,8 @@ returns-clause-written g c =
     let map : ℕ → Option Value = λ u. map_of d.vseg.places old u in
     let now : ℕ → Option Value = λ u. map_of c.virtual_write-answer.new.self.places new u in
     let main = c.args.from.now.main in
-    let to_keeps : Keeps d.vseg.pages d.vseg.bound map old new → Keeps d.vseg.pages bound map old new = λ k. subst (λ b. Keeps d.vseg.pages b map old new) f.segments.virtual_bound k in
-    let to_takes : Takes d.vseg.pages d.vseg.bound map c.args.vaddr d.next main old new → Takes d.vseg.pages bound map c.args.vaddr d.next main old new = λ k. subst (λ b. Takes d.vseg.pages b map c.args.vaddr d.next main old new) f.segments.virtual_bound k in
+    let to_keeps : ImageKeepsMap d.vseg.pages d.vseg.bound map old new → ImageKeepsMap d.vseg.pages bound map old new = λ k. subst (λ b. ImageKeepsMap d.vseg.pages b map old new) f.segments.virtual_bound k in
+    let to_takes : GainsValue d.vseg.pages d.vseg.bound map c.args.vaddr d.next main old new → GainsValue d.vseg.pages bound map c.args.vaddr d.next main old new = λ k. subst (λ b. GainsValue d.vseg.pages b map c.args.vaddr d.next main old new) f.segments.virtual_bound k in
     record {
       stamps = e.writes.stamps.taken;
       same_stamps = e.writes.stamps.same;
@@ -135,8 +135,8 @@ returns-clause-formed g c =
     let main = c.args.from.now.main in
     let next = c.stamp_after-self.result in
     let taken = c.takes_stamp-taken.result in
-    let to_keeps : Keeps d.vseg.pages d.vseg.bound map old new → Keeps d.vseg.pages bound map old new = λ k. subst (λ b. Keeps d.vseg.pages b map old new) f.segments.virtual_bound k in
-    let to_takes : Takes d.vseg.pages d.vseg.bound map c.args.vaddr d.next main old new → Takes d.vseg.pages bound map c.args.vaddr d.next main old new = λ k. subst (λ b. Takes d.vseg.pages b map c.args.vaddr d.next main old new) f.segments.virtual_bound k in
+    let to_keeps : ImageKeepsMap d.vseg.pages d.vseg.bound map old new → ImageKeepsMap d.vseg.pages bound map old new = λ k. subst (λ b. ImageKeepsMap d.vseg.pages b map old new) f.segments.virtual_bound k in
+    let to_takes : GainsValue d.vseg.pages d.vseg.bound map c.args.vaddr d.next main old new → GainsValue d.vseg.pages bound map c.args.vaddr d.next main old new = λ k. subst (λ b. GainsValue d.vseg.pages b map c.args.vaddr d.next main old new) f.segments.virtual_bound k in
     let rises : d.next ≤ next = next_rises taken next d.next c.stamp_after-self.ensures in
     let more_done : c.virtual_write-answer.result ≡ write.Done → next ≡ d.next + 1 = λ done. next_taken taken next d.next c.stamp_after-self.ensures (c.takes_stamp-taken.ensures.1 (inl done)) in
     let more_rose : Rose (g.M.Nand.write_faults d.media) (g.M.Nand.write_faults c.virtual_write-answer.new.media) → next ≡ d.next + 1 = λ rose. next_taken taken next d.next c.stamp_after-self.ensures (c.takes_stamp-taken.ensures.1 (inr (subst (λ n. Rose n c.write_faults.result) (sym c.write_faults-faults.ensures) (subst (λ n. Rose (g.M.Nand.write_faults d.media) n) (sym c.write_faults.ensures) rose)))) in

@@ -1,5 +1,5 @@
 use Rattle.std.proofs.Common.{◌≡◌, ◌-◌, ◌*◌, ◌^◌, ◌<◌, ℕ, Bool, List, sym, subst, length, get_or, arith}
-use Rattle.nl_inode.specs.Free.{IsLeast, NoneFree}
+use Rattle.nl_inode.specs.Free.{IsLeastFreeNumber, NoneFree}
 use Rattle.nl_inode.specs.Tree.{IsFirstIn}
 use Rattle.nl_inode.proofs.MarkTree.{found-below, found-least, free-length, none-free}
 use Rattle.nl_inode.proofs.free_set.FreeSet.least.Goals as goal
@@ -14,7 +14,7 @@ overflow_cast-result c =
 pub returns-then-index-clause-least : goal.returns-then-index-clause-least
 returns-then-index-clause-least c =
     let first = subst (λ (tree : List Bool). IsFirstIn tree (1 * 2 ^ c.self.inside.height) (2 ^ c.self.inside.height) c.first_below.result) c.deref.ensures.value c.first_below.ensures in
-    subst (IsLeast (c.first_below.result - c.self.inside.width)) c.self.view_is (found-least _ _ _ _ c.self.invariant c.first_below.result first)
+    subst (IsLeastFreeNumber (c.first_below.result - c.self.inside.width)) c.self.view_is (found-least _ _ _ _ c.self.invariant c.first_below.result first)
 
 pub returns-then-index-clause-below : goal.returns-then-index-clause-below
 returns-then-index-clause-below c =

@@ -4,9 +4,9 @@ use Rattle.nl_meta.specs.Pages.{Frozen, Pages, none_frozen}
 use Rattle.nl_field.specs.declared.shape.Shape.{Shape}
 use Rattle.nl_journal.specs.Homes.{BringsHome}
 use Rattle.nl_journal.specs.Outcomes.{bytes_of}
-use Rattle.nl_journal.specs.Passes.{Passes}
+use Rattle.nl_journal.specs.Passes.{ChangesAddressesOnly}
 use Rattle.nl_journal.specs.Progress.{IsPhase, units_left}
-use Rattle.nl_journal.specs.Units.{IsDone, frozen_after}
+use Rattle.nl_journal.specs.Units.{UnitIsDone, frozen_after}
 use Rattle.nl_journal.specs.declared.answers.Unit.TheVariants as unit
 use Rattle.nl_journal.proofs.Finishing.{after_either, few_left, more_left, phase_of_none}
 use Rattle.nl_journal.proofs.FinishSteps.{begun_step, done_is, frozen_waits, no_addresses, number_step, some_frozen, units_step, writes_failed, writes_none, writes_step}
@@ -85,14 +85,14 @@ returns-in_default g m c =
         none = λ empty. let e = ap length empty in absurd (omega (arith, some, e));
       };
       writes = λ t numbers.
-          writes_step G old mid new p pages e.passes.named.same_shape (none_failed G (IsDone c.unit.result) 1 old mid t done e.passes) (IsDone c.unit.result) (c.finish.result ≡ write.Done) q r mid_pages new_pages done
+          writes_step G old mid new p pages e.passes.named.same_shape (none_failed G (UnitIsDone c.unit.result) 1 old mid t done e.passes) (UnitIsDone c.unit.result) (c.finish.result ≡ write.Done) q r mid_pages new_pages done
           c.requires.order.phase some goes.1 goes.2 (e.writes t numbers) (f.writes t (subst (λ n. n < 9223372036854775808) (sym begun_same) numbers))
           (λ o before undecided. f.clock.later (o, more_left p.phase q.phase pages.frozen mid_pages.frozen c.args.until some c.requires.until e.order.phase after before undecided));
-      home = λ t. home_step (G.shape old).vaddrs pages.frozen new_pages.frozen r (bytes_of (G.map old)) (bytes_of (G.map mid)) (bytes_of (G.map new)) (IsDone c.unit.result) done (c.requires.order.pages some)
+      home = λ t. home_step (G.shape old).vaddrs pages.frozen new_pages.frozen r (bytes_of (G.map old)) (bytes_of (G.map mid)) (bytes_of (G.map new)) (UnitIsDone c.unit.result) done (c.requires.order.pages some)
           p q mid_pages.frozen goes.1 after (e.home t)
           (subst (λ (h : Shape). BringsHome h.vaddrs q r mid_pages.frozen new_pages.frozen (bytes_of (G.map mid)) (bytes_of (G.map new))) e.passes.named.same_shape (f.home t));
-      passes = subst (λ n. Passes G (c.finish.result ≡ write.Done) n old new) (let one : 1 + units_left q.phase (length mid_pages.frozen.addresses) ≡ units_left p.phase (length pages.frozen.addresses) = omega (arith, units_same) in one)
-          (passes_then G old mid new e.faults.writes_never_fall f.faults.writes_never_fall (IsDone c.unit.result) (c.finish.result ≡ write.Done) 1 (units_left q.phase (length mid_pages.frozen.addresses)) done f.clock.clock e.passes f.passes);
+      passes = subst (λ n. ChangesAddressesOnly G (c.finish.result ≡ write.Done) n old new) (let one : 1 + units_left q.phase (length mid_pages.frozen.addresses) ≡ units_left p.phase (length pages.frozen.addresses) = omega (arith, units_same) in one)
+          (passes_then G old mid new e.faults.writes_never_fall f.faults.writes_never_fall (UnitIsDone c.unit.result) (c.finish.result ≡ write.Done) 1 (units_left q.phase (length mid_pages.frozen.addresses)) done f.clock.clock e.passes f.passes);
       lost = f.lost;
       clock = record { clock = (let a = e.clock.clock in let b = f.clock.clock in omega (arith, a, b)); later = λ o below. let less = e.clock.later done below in let b = f.clock.clock in omega (arith, less, b) };
       faults = counted_then G old mid new e.faults.writes_never_fall f.faults.writes_never_fall (c.unit.result ≡ unit.Fault) (c.finish.result ≡ write.Fault) c.in_default.not-Fault e.passes.named.clean e.faults f.faults;

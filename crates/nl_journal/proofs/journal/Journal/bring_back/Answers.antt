@@ -6,7 +6,7 @@ use Rattle.nl_meta.specs.Committed.{counting, next_number}
 use Rattle.nl_meta.specs.Pages.{Pages, no_pages}
 use Rattle.nl_journal.specs.Opening.{counted_in}
 use Rattle.nl_journal.specs.Outcomes.{bytes_of}
-use Rattle.nl_journal.specs.Restoring.{IsListing}
+use Rattle.nl_journal.specs.Restoring.{IsVolumeHeader}
 use Rattle.nl_journal.specs.Transaction.{head}
 use Rattle.nl_journal.specs.declared.answers.ReadBack.TheVariants as back
 use Rattle.nl_journal.proofs.BackReads.{brought}
@@ -20,8 +20,8 @@ bring_images-found-requires-clause-none g c =
 
 pub bring_images-found-requires-clause-listing : goal.bring_images-found-requires-clause-listing
 bring_images-found-requires-clause-listing g c =
-    subst (λ (h : Shape). IsListing h c.in-Some-Some.header) (c.requires.shape ∙ sym c.read_ends.ensures.kept.medium.virtual.same_shape)
-    (subst (λ (o : Option HeaderRec). IfSome o (IsListing c.args.shape.now)) c.in-Some-Some.field-0-is c.in-Some-Some.ensures.listing)
+    subst (λ (h : Shape). IsVolumeHeader h c.in-Some-Some.header) (c.requires.shape ∙ sym c.read_ends.ensures.kept.medium.virtual.same_shape)
+    (subst (λ (o : Option HeaderRec). IfSome o (IsVolumeHeader c.args.shape.now)) c.in-Some-Some.field-0-is c.in-Some-Some.ensures.listing)
 
 pub bring_images-found-requires-clause-header : goal.bring_images-found-requires-clause-header
 bring_images-found-requires-clause-header g c t =

@@ -3,7 +3,7 @@ use Rattle.nl_field.specs.declared.answers.VirtualWrite.TheVariants as write
 use Rattle.nl_meta.specs.Pages.{Pages, dirty_pages}
 use Rattle.nl_journal.specs.Left.{FinishWrites}
 use Rattle.nl_journal.specs.Progress.{HasNumber, begun, raised}
-use Rattle.nl_journal.specs.Units.{IsCommitted}
+use Rattle.nl_journal.specs.Units.{CommitIsDone}
 use Rattle.nl_journal.proofs.CommitSteps.{begun_header, dirty_by, dirty_writes}
 use Rattle.nl_journal.proofs.journal.Journal.commit_dirty.Goals as goal
 use Rattle.nl_journal.proofs.journal.Journal.commit_dirty.Goals.{in-Done, in-Lost, in-Fault}
@@ -22,9 +22,9 @@ returns-clause-writes g c t numbers =
     (subst (λ n. n < 9223372036854775808) (sym starts) below) in
     let all = dirty_writes G (c.finish.result ≡ write.Done) c.args.device.now c.finish.new.device p c.finish.new.self pages c.finish.new.meta c.requires.header c.requires.dirty.pages.some
     (ap (λ (n : Pages). n.dirty) c.finish.ensures.finishes.kept ∙ ap (λ (n : Pages). n.dirty) c.freeze.ensures) below writes in
-    dirty_by G (c.finish.result ≡ write.Done) (IsCommitted c.match-finish.result) c.args.device.now c.finish.new.device p c.finish.new.self pages c.finish.new.meta
+    dirty_by G (c.finish.result ≡ write.Done) (CommitIsDone c.match-finish.result) c.args.device.now c.finish.new.device p c.finish.new.self pages c.finish.new.meta
     (elim c.match-finish.branch [
       | in-Done w ↦ λ d. w.in-Done.is
-      | in-Lost w ↦ λ d. absurd (subst IsCommitted w.result-is d)
-      | in-Fault w ↦ λ d. absurd (subst IsCommitted w.result-is d)
+      | in-Lost w ↦ λ d. absurd (subst CommitIsDone w.result-is d)
+      | in-Fault w ↦ λ d. absurd (subst CommitIsDone w.result-is d)
     ]) all

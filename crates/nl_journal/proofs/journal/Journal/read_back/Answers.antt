@@ -3,7 +3,7 @@ use Rattle.std.specs.Prelude.{IfSome}
 use Rattle.nl_field.specs.declared.header.HeaderRec.{HeaderRec}
 use Rattle.nl_journal.specs.Opening.{are_there, counted_in}
 use Rattle.nl_journal.specs.Outcomes.{bytes_of}
-use Rattle.nl_journal.specs.Restoring.{IsListing}
+use Rattle.nl_journal.specs.Restoring.{IsVolumeHeader}
 use Rattle.nl_journal.proofs.BackFacts.{header-parts}
 use Rattle.nl_journal.proofs.BackStands.{bytes-same}
 use Rattle.nl_journal.proofs.Openings.{counted_all, counted_none}
@@ -11,7 +11,7 @@ use Rattle.nl_journal.proofs.journal.Journal.read_back.Goals as goal
 
 pub are_there-requires-clause-few : goal.are_there-requires-clause-few
 are_there-requires-clause-few g c =
-    let listing : IsListing c.args.shape.now c.in-Some-Some.header = subst (λ (o : Option HeaderRec). IfSome o (IsListing c.args.shape.now)) c.in-Some-Some.field-0-is c.in-Some-Some.ensures.listing in
+    let listing : IsVolumeHeader c.args.shape.now c.in-Some-Some.header = subst (λ (o : Option HeaderRec). IfSome o (IsVolumeHeader c.args.shape.now)) c.in-Some-Some.field-0-is c.in-Some-Some.ensures.listing in
     let few = (header-parts c.in-Some-Some.header listing.spelled).1 in
     let e = c.len.ensures.count in
     omega (arith, few, e)

@@ -4,7 +4,7 @@ use Rattle.nl_field.specs.declared.header.HeaderRec.{HeaderRec}
 use Rattle.nl_iface.specs.Stored.{Value}
 use Rattle.nl_journal.specs.Opening.{counted_in, deciding}
 use Rattle.nl_journal.specs.Outcomes.{bytes_of}
-use Rattle.nl_journal.specs.Restoring.{IsListing}
+use Rattle.nl_journal.specs.Restoring.{IsVolumeHeader}
 use Rattle.nl_journal.specs.Transaction.{head, mark}
 use Rattle.nl_journal.proofs.Openings.{counting_decides, deciding_has, number_is, some_of}
 use Rattle.nl_journal.proofs.journal.Journal.read_ends.Goals as goal
@@ -12,16 +12,16 @@ use Rattle.nl_journal.proofs.journal.Journal.read_ends.Goals as goal
 pub judge-requires-clause-header : goal.judge-requires-clause-header
 judge-requires-clause-header g c = number-of c.in-Some.header c.in-Some.ensures.spelled
   where
-    number-of : (o : Option HeaderRec) → IfSome o (λ h. (h.number < 2 ^ 63) × IsListing c.args.shape.now h) → IfSome o (λ h. h.number < 2 ^ 63)
+    number-of : (o : Option HeaderRec) → IfSome o (λ h. (h.number < 2 ^ 63) × IsVolumeHeader c.args.shape.now h) → IfSome o (λ h. h.number < 2 ^ 63)
     number-of None h = tt
     number-of (Some x) h = h.0
 
 pub returns-in-Some-commit_page-clause-listing : goal.returns-in-Some-commit_page-clause-listing
 returns-in-Some-commit_page-clause-listing g c =
-    subst (λ (o : Option HeaderRec). IfSome o (IsListing c.args.shape.now)) (sym c.judge.ensures.decides)
-    (deciding_has (IsListing c.args.shape.now) c.in-Some.header c.in-Some-commit_page.commit (listing-of c.in-Some.header c.in-Some.ensures.spelled))
+    subst (λ (o : Option HeaderRec). IfSome o (IsVolumeHeader c.args.shape.now)) (sym c.judge.ensures.decides)
+    (deciding_has (IsVolumeHeader c.args.shape.now) c.in-Some.header c.in-Some-commit_page.commit (listing-of c.in-Some.header c.in-Some.ensures.spelled))
   where
-    listing-of : (o : Option HeaderRec) → IfSome o (λ h. (h.number < 2 ^ 63) × IsListing c.args.shape.now h) → IfSome o (IsListing c.args.shape.now)
+    listing-of : (o : Option HeaderRec) → IfSome o (λ h. (h.number < 2 ^ 63) × IsVolumeHeader c.args.shape.now h) → IfSome o (IsVolumeHeader c.args.shape.now)
     listing-of None h = tt
     listing-of (Some x) h = h.1
 

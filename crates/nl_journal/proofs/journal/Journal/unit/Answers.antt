@@ -3,8 +3,8 @@ use Rattle.nl_field.specs.declared.answers.VirtualWrite.{VirtualWrite}
 use Rattle.nl_field.specs.declared.answers.VirtualWrite.TheVariants as write
 use Rattle.nl_journal.specs.Left.{UnitWrites}
 use Rattle.nl_journal.specs.Progress.{Progress}
-use Rattle.nl_journal.specs.Standing.{InOrder}
-use Rattle.nl_journal.specs.Units.{Advances, IsDone, IsDue}
+use Rattle.nl_journal.specs.Standing.{JournalInOrder}
+use Rattle.nl_journal.specs.Units.{Advances, UnitIsDone, IsDue}
 use Rattle.nl_journal.proofs.Addresses.{addresses_of}
 use Rattle.nl_journal.proofs.FrozenPages.{due_within}
 use Rattle.nl_journal.proofs.HomeWrites.{done_home, undone_home}
@@ -43,7 +43,7 @@ returns-in-Done-clause-writes g c t numbers =
     let due = subst (λ (q : Progress). IsDue q.phase q.number frozen v main) c.self.view_is c.due-vaddr.ensures in
     let goes = (subst (λ (q : Progress). Advances c.advance.result q c.advance.new.self c.args.meta.now c.advance.new.meta) c.self.view_is c.advance.ensures.advances).done c.advance.ensures.done in
     done_writes g.D.Counts old c.put.new.device c.args.self.now c.args.meta.now v main (g.met.D.VirtualPages.numbers old c.requires.formed) c.requires.some c.requires.order due c.put.ensures.passes.named.same_shape
-    (c.put.result ≡ write.Done) (IsDone c.advance.result) (λ d. c.in-Done.is) c.advance.ensures.done c.advance.new.self c.advance.new.meta t numbers (c.put.ensures.done t c.in-Done.is) goes.1 goes.2 (c.put.ensures.left t)
+    (c.put.result ≡ write.Done) (UnitIsDone c.advance.result) (λ d. c.in-Done.is) c.advance.ensures.done c.advance.new.self c.advance.new.meta t numbers (c.put.ensures.done t c.in-Done.is) goes.1 goes.2 (c.put.ensures.left t)
 
 pub returns-in-Fault-clause-order : goal.returns-in-Fault-clause-order
 returns-in-Fault-clause-order g c =
@@ -52,7 +52,7 @@ returns-in-Fault-clause-order g c =
     let v = c.due-vaddr.result in
     let main = c.due-vaddr.new.page.main in
     let due = subst (λ (q : Progress). IsDue q.phase q.number frozen v main) c.self.view_is c.due-vaddr.ensures in
-    subst (λ (q : Progress). InOrder g.D.Counts c.put.new.device q frozen) (sym c.self.view_is)
+    subst (λ (q : Progress). JournalInOrder g.D.Counts c.put.new.device q frozen) (sym c.self.view_is)
     (undone_order g.D.Counts old c.put.new.device c.args.self.now c.args.meta.now v main (g.met.D.VirtualPages.numbers old c.requires.formed) c.requires.some c.requires.order due c.put.ensures.passes.named.same_shape
     (λ t. c.put.ensures.undone t (failed_is c.put.result c.in-Fault.is)) (λ t. c.put.ensures.same t (failed_is c.put.result c.in-Fault.is)))
 
@@ -75,7 +75,7 @@ returns-in-Done-clause-home g c t =
     let v = c.due-vaddr.result in
     let main = c.due-vaddr.new.page.main in
     let due = subst (λ (q : Progress). IsDue q.phase q.number frozen v main) c.self.view_is c.due-vaddr.ensures in
-    done_home c.args.self.now.phase c.args.self.now.number frozen v main (G.shape old).vaddrs (c.requires.order.pages c.requires.some) c.requires.order.phase due (IsDone c.advance.result) c.advance.ensures.done
+    done_home c.args.self.now.phase c.args.self.now.number frozen v main (G.shape old).vaddrs (c.requires.order.pages c.requires.some) c.requires.order.phase due (UnitIsDone c.advance.result) c.advance.ensures.done
     (bytes_of (G.map old)) (bytes_of (G.map c.put.new.device)) (c.put.ensures.raw t c.in-Done.is)
 
 pub returns-in-Fault-clause-home : goal.returns-in-Fault-clause-home

@@ -1,5 +1,5 @@
 use Rattle.std.proofs.Common.{◌≡◌, ◌<◌, ◌^◌, [], List, Bool, ℕ, ap, subst, sym, ◌∙◌, length, map, take, replicate, false, vec_len, rules}
-use Rattle.nl_meta.specs.Inside.{IsKept, slots}
+use Rattle.nl_meta.specs.Inside.{IsMetaState, slots}
 use Rattle.nl_meta.specs.Pages.{Pages, no_pages}
 use Rattle.nl_meta.proofs.Kept.{blank, slots-length, slots-none}
 use Rattle.nl_meta.proofs.meta.Meta.clear.Goals as goal
@@ -9,10 +9,10 @@ invariant_of-self c =
     let n = vec_len c.self.inside.resident in
     let e : n ≡ length c.self.inside.resident.items = search rules in
     let pages : length c.self.inside.pages.items ≡ n = sym (e ∙ c.self.invariant.each) in
-    subst (λ (bs : List Bool). IsKept c.self.inside.pages.items bs 0 c.new-self-inside.result c.new-self-inside-2.result c.new-self-inside-3.result c.self.inside.images.items) (sym (c.fill.ensures.items (λ y e. e)))
-    (subst (λ (xs : List ℕ). IsKept c.self.inside.pages.items (replicate n false) 0 xs c.new-self-inside-2.result c.new-self-inside-3.result c.self.inside.images.items) (sym c.new-self-inside.ensures)
-    (subst (λ (xs : List ℕ). IsKept c.self.inside.pages.items (replicate n false) 0 [] xs c.new-self-inside-3.result c.self.inside.images.items) (sym c.new-self-inside-2.ensures)
-    (subst (λ (xs : List ℕ). IsKept c.self.inside.pages.items (replicate n false) 0 [] [] xs c.self.inside.images.items) (sym c.new-self-inside-3.ensures)
+    subst (λ (bs : List Bool). IsMetaState c.self.inside.pages.items bs 0 c.new-self-inside.result c.new-self-inside-2.result c.new-self-inside-3.result c.self.inside.images.items) (sym (c.fill.ensures.items (λ y e. e)))
+    (subst (λ (xs : List ℕ). IsMetaState c.self.inside.pages.items (replicate n false) 0 xs c.new-self-inside-2.result c.new-self-inside-3.result c.self.inside.images.items) (sym c.new-self-inside.ensures)
+    (subst (λ (xs : List ℕ). IsMetaState c.self.inside.pages.items (replicate n false) 0 [] xs c.new-self-inside-3.result c.self.inside.images.items) (sym c.new-self-inside-2.ensures)
+    (subst (λ (xs : List ℕ). IsMetaState c.self.inside.pages.items (replicate n false) 0 [] [] xs c.self.inside.images.items) (sym c.new-self-inside-3.ensures)
     (blank c.self.inside.pages.items c.self.inside.images.items n pages (subst (λ k. k < 2 ^ 32) pages c.self.invariant.room) c.self.invariant.images_room))))
 
 pub returns : goal.returns

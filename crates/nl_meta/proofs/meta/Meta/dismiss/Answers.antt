@@ -1,5 +1,5 @@
 use Rattle.std.proofs.Common.{List, Bool, IsSome, ap, subst, sym, ◌∙◌, length, filter, map, take}
-use Rattle.nl_meta.specs.Inside.{IsKept, slots}
+use Rattle.nl_meta.specs.Inside.{IsMetaState, slots}
 use Rattle.nl_meta.specs.Pages.{Pages, is_dirty, page_of}
 use Rattle.nl_meta.specs.Steps.{without_page}
 use Rattle.nl_meta.proofs.Kept.{dropped, here, slots-dropped}
@@ -10,7 +10,7 @@ drop_place-requires-clause-there c = here _ _ _ _ _ _ _ c.self.invariant c.args.
 
 pub invariant_of-self : goal.invariant_of-self
 invariant_of-self c =
-    subst (λ (bs : List Bool). IsKept c.self.inside.pages.items bs c.drop_place.new.count c.self.inside.dirty c.self.inside.recent c.self.inside.frozen c.self.inside.images.items) (sym c.drop_place.ensures.items)
+    subst (λ (bs : List Bool). IsMetaState c.self.inside.pages.items bs c.drop_place.new.count c.self.inside.dirty c.self.inside.recent c.self.inside.frozen c.self.inside.images.items) (sym c.drop_place.ensures.items)
     (dropped _ _ _ _ _ _ _ c.self.invariant c.args.vaddr c.drop_place.new.count (ap (λ (p : Pages). is_dirty p c.args.vaddr) c.self.view_is ∙ c.requires.clean)
     (c.drop_place.ensures.counted ∙ ap (λ (bs : List Bool). length (filter (λ b. b) bs)) c.drop_place.ensures.items))
 

@@ -1,6 +1,6 @@
 use Rattle.std.proofs.Common.{[], List, ℕ, ap, subst, sym, ◌∙◌, length, map, take, get_or, arith}
 use Rattle.nl_field.specs.Page.{PageBytes}
-use Rattle.nl_meta.specs.Inside.{IsKept, no_page, slots}
+use Rattle.nl_meta.specs.Inside.{IsMetaState, no_page, slots}
 use Rattle.nl_meta.specs.Pages.{Pages, dirty_pages}
 use Rattle.nl_meta.proofs.Kept.{frozen-now, has-at, images-same, within}
 use Rattle.nl_meta.proofs.meta.Meta.freeze.Goals as goal
@@ -13,8 +13,8 @@ copy_pages-requires-clause-there c i lt =
 
 pub invariant_of-self : goal.invariant_of-self
 invariant_of-self c =
-    subst (λ (xs : List ℕ). IsKept c.self.inside.pages.items c.self.inside.resident.items c.self.inside.count xs c.self.inside.recent c.replace-self-inside.result c.copy_pages.new.images.items) (sym (c.replace-self-inside.ensures.after ∙ c.new.ensures))
-    (subst (λ (xs : List ℕ). IsKept c.self.inside.pages.items c.self.inside.resident.items c.self.inside.count [] c.self.inside.recent xs c.copy_pages.new.images.items) (sym c.replace-self-inside.ensures.value)
+    subst (λ (xs : List ℕ). IsMetaState c.self.inside.pages.items c.self.inside.resident.items c.self.inside.count xs c.self.inside.recent c.replace-self-inside.result c.copy_pages.new.images.items) (sym (c.replace-self-inside.ensures.after ∙ c.new.ensures))
+    (subst (λ (xs : List ℕ). IsMetaState c.self.inside.pages.items c.self.inside.resident.items c.self.inside.count [] c.self.inside.recent xs c.copy_pages.new.images.items) (sym c.replace-self-inside.ensures.value)
     (frozen-now _ _ _ _ _ _ _ c.self.invariant c.copy_pages.new.images.items c.copy_pages.ensures.size))
 
 pub returns : goal.returns

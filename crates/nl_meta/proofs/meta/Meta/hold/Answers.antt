@@ -1,5 +1,5 @@
 use Rattle.std.proofs.Common.{◌<◌, List, Bool, ℕ, ap, subst, sym, ◌∙◌, length, map, take, filter, get_or}
-use Rattle.nl_meta.specs.Inside.{IsKept, no_page, slots}
+use Rattle.nl_meta.specs.Inside.{IsMetaState, no_page, slots}
 use Rattle.nl_meta.specs.Pages.{Pages}
 use Rattle.nl_meta.specs.Steps.{with_admitted}
 use Rattle.nl_meta.proofs.Kept.{held, slots-held, slots-length}
@@ -11,7 +11,7 @@ hold_place-requires-clause-below c =
 
 pub invariant_of-self : goal.invariant_of-self
 invariant_of-self c =
-    subst (λ (bs : List Bool). IsKept c.self.inside.pages.items bs c.hold_place.new.count c.self.inside.dirty c.moved_front-self-inside.result c.self.inside.frozen c.self.inside.images.items) (sym c.hold_place.ensures.items)
+    subst (λ (bs : List Bool). IsMetaState c.self.inside.pages.items bs c.hold_place.new.count c.self.inside.dirty c.moved_front-self-inside.result c.self.inside.frozen c.self.inside.images.items) (sym c.hold_place.ensures.items)
     (held _ _ _ _ _ _ _ c.self.invariant c.args.vaddr c.hold_place.new.count c.moved_front-self-inside.result
     (c.hold_place.ensures.counted ∙ ap (λ (bs : List Bool). length (filter (λ b. b) bs)) c.hold_place.ensures.items))
 

@@ -1,8 +1,8 @@
-use Rattle.nl_pseg.specs.Cleaning.{Begins, CannotBegin, IsChosen}
+use Rattle.nl_pseg.specs.Cleaning.{BeginsBlock, CannotBegin, IsChosen}
 use Rattle.std.specs.Bool.{OnTrue, OnFalse}
 use Rattle.std.proofs.Common.{sym, subst, ◌≡◌, ◌↔◌, ℕ, IsTrue}
 use Rattle.nl_field.specs.Page.{Image}
-use Rattle.nl_pseg.specs.Segment.{HasSpare, IsClean, IsPhysicalOf, KeepsBlock, Physical}
+use Rattle.nl_pseg.specs.Segment.{CanSpareBlock, IsClean, IsPhysicalOf, KeepsBlock, Physical}
 use Rattle.nl_pseg.specs.Seen.{seen}
 use Rattle.nl_pseg.proofs.Chooses.{begins_clean, begins_kept, begins_segment, begins_spare, by_answer}
 use Rattle.nl_pseg.specs.Kept.{kept}
@@ -18,9 +18,9 @@ returns-clause-segment c =
 pub returns-clause-spare : goal.returns-clause-spare
 returns-clause-spare c =
     let x = seen (kept c.begin-begun.new.self) in
-    subst (λ (s : Physical). (image : Image) → HasSpare image s → HasSpare image x) c.self.view_is
-    (by_answer c.begin-begun.result ((image : Image) → HasSpare image (seen (kept c.self.inside.state)) → HasSpare image x) c.begin-begun.ensures.begun c.begin-begun.ensures.none
-    (λ b. begins_spare b.2) (λ same image is. subst (HasSpare image) (sym same) is))
+    subst (λ (s : Physical). (image : Image) → CanSpareBlock image s → CanSpareBlock image x) c.self.view_is
+    (by_answer c.begin-begun.result ((image : Image) → CanSpareBlock image (seen (kept c.self.inside.state)) → CanSpareBlock image x) c.begin-begun.ensures.begun c.begin-begun.ensures.none
+    (λ b. begins_spare b.2) (λ same image is. subst (CanSpareBlock image) (sym same) is))
 
 pub returns-clause-clean : goal.returns-clause-clean
 returns-clause-clean c =
@@ -58,7 +58,7 @@ pub returns-clause-whole : goal.returns-clause-whole
 returns-clause-whole c = c.whole.ensures.whole
 
 pub returns-clause-begun : goal.returns-clause-begun
-returns-clause-begun c = subst (λ (s : Physical). OnTrue c.begin-begun.result ((block : ℕ) × IsChosen c.args.cold s block × Begins block s (seen (kept c.begin-begun.new.self)))) c.self.view_is c.begin-begun.ensures.begun
+returns-clause-begun c = subst (λ (s : Physical). OnTrue c.begin-begun.result ((block : ℕ) × IsChosen c.args.cold s block × BeginsBlock block s (seen (kept c.begin-begun.new.self)))) c.self.view_is c.begin-begun.ensures.begun
 
 pub returns-clause-none : goal.returns-clause-none
 returns-clause-none c = subst (λ (s : Physical). OnFalse c.begin-begun.result ((seen (kept c.begin-begun.new.self)) ≡ s)) c.self.view_is c.begin-begun.ensures.none

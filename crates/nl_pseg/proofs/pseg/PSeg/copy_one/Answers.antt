@@ -1,10 +1,10 @@
-use Rattle.nl_pseg.specs.Space.{HasRoomForVictim, left_of}
+use Rattle.nl_pseg.specs.Space.{HasRoomForVictim, left_in_victim}
 use Rattle.std.proofs.Common.{◌≡◌, subst, ◌↔◌, sym}
 use Rattle.nl_pseg.specs.Cleaning.{CountedMove}
 use Rattle.nl_pseg.specs.Copies.{CopiesOn, CopiesPage}
 use Rattle.nl_pseg.specs.Segment.{IsClean, Physical, IsPhysicalOf}
 use Rattle.nl_pseg.specs.Kept.{kept}
-use Rattle.nl_pseg.specs.Seen.{seen, Fits}
+use Rattle.nl_pseg.specs.Seen.{seen, FitsPhysical}
 use Rattle.nl_pseg.specs.declared.cleaned.Copied.TheVariants.{Nothing}
 use Rattle.nl_pseg.proofs.pseg.PSeg.copy_one.Goals as goal
 
@@ -14,7 +14,7 @@ returns-clause-counts g c =
     subst (λ (s : Physical). CountedMove g.M.Nand.clock g.M.Nand.read_faults g.M.Nand.write_faults (IsClean s) c.args.media.now e.new.media e.result) c.self.view_is e.ensures.counts
 
 pub copy_one-copied-requires-clause-fits : goal.copy_one-copied-requires-clause-fits
-copy_one-copied-requires-clause-fits g c = subst (λ (s : Physical). Fits (g.M.Nand.geometry c.args.media.now) s) (sym c.self.view_is) c.requires.fits
+copy_one-copied-requires-clause-fits g c = subst (λ (s : Physical). FitsPhysical (g.M.Nand.geometry c.args.media.now) s) (sym c.self.view_is) c.requires.fits
 
 pub copy_one-copied-requires-clause-lands : goal.copy_one-copied-requires-clause-lands
 copy_one-copied-requires-clause-lands g c = subst HasRoomForVictim (sym c.self.view_is) c.requires.lands
@@ -35,7 +35,7 @@ pub returns-clause-whole : goal.returns-clause-whole
 returns-clause-whole g c = c.whole.ensures.whole
 
 pub returns-clause-nothing : goal.returns-clause-nothing
-returns-clause-nothing g c = subst (λ (s : Physical). (c.copy_one-copied.result ≡ Nothing) ↔ (left_of s ≡ 0)) c.self.view_is c.copy_one-copied.ensures.nothing
+returns-clause-nothing g c = subst (λ (s : Physical). (c.copy_one-copied.result ≡ Nothing) ↔ (left_in_victim s ≡ 0)) c.self.view_is c.copy_one-copied.ensures.nothing
 
 pub returns-clause-refused : goal.returns-clause-refused
 returns-clause-refused g c = subst (λ (s : Physical). c.copy_one-copied.result ≡ Nothing → ((seen (kept c.copy_one-copied.new.self)) ≡ s) × (c.copy_one-copied.new.media ≡ c.args.media.now)) c.self.view_is c.copy_one-copied.ensures.refused

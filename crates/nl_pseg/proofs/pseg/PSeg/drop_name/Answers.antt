@@ -6,9 +6,9 @@ use Rattle.std.proofs.lemmas.Bool.{OnTrue_at, OnTrue_from}
 use Rattle.nl_field.specs.Page.{Image}
 use Rattle.nl_remap.specs.Table.{told}
 use Rattle.nl_pseg.specs.Cleaning.{without_name}
-use Rattle.nl_pseg.specs.Segment.{HasSpare, IsClean, IsOldName, IsPhysicalOf, KeepsBlock, Physical, SamePages}
+use Rattle.nl_pseg.specs.Segment.{CanSpareBlock, IsClean, IsOldName, IsPhysicalOf, KeepsBlock, Physical, SameBlocksAndPages}
 use Rattle.nl_pseg.specs.Seen.{seen}
-use Rattle.nl_pseg.specs.Space.{GivesBack, Lessens, reach}
+use Rattle.nl_pseg.specs.Space.{GivesBackBlocks, Lessens, reach}
 use Rattle.nl_pseg.proofs.After.{dropped_back, dropped_few, dropped_reach, dropped_space}
 use Rattle.nl_pseg.proofs.Dropping.{dropped_told}
 use Rattle.nl_pseg.proofs.Ended.{gone_clean, gone_kept, gone_segment, gone_spare, gone_pages}
@@ -61,7 +61,7 @@ returns-clause-back c =
     let i = c.self.invariant in
     let d = c.drop_name-dropped.ensures in
     let x = kept c.drop_name-dropped.new.self in
-    subst (λ (o : Physical). GivesBack o (seen x)) c.self.view_is (dropped_back s x i.0 i.1 i.3 i.2 d.formed d.tied c.table.ensures d.gone d.held)
+    subst (λ (o : Physical). GivesBackBlocks o (seen x)) c.self.view_is (dropped_back s x i.0 i.1 i.3 i.2 d.formed d.tied c.table.ensures d.gone d.held)
 
 pub returns-clause-segment : goal.returns-clause-segment
 returns-clause-segment c =
@@ -71,7 +71,7 @@ returns-clause-segment c =
 pub returns-clause-spare : goal.returns-clause-spare
 returns-clause-spare c =
     let d = c.drop_name-dropped.ensures in
-    subst (λ (o : Physical). (image : Image) → HasSpare image o → HasSpare image (seen (kept c.drop_name-dropped.new.self))) c.self.view_is (gone_spare d.gone (λ p h live. (λ i. get_or (sym d.held i).items p None) ∙ live))
+    subst (λ (o : Physical). (image : Image) → CanSpareBlock image o → CanSpareBlock image (seen (kept c.drop_name-dropped.new.self))) c.self.view_is (gone_spare d.gone (λ p h live. (λ i. get_or (sym d.held i).items p None) ∙ live))
 
 pub returns-clause-kept_block : goal.returns-clause-kept_block
 returns-clause-kept_block c = subst (λ (o : Physical). KeepsBlock o → KeepsBlock (seen (kept c.drop_name-dropped.new.self))) c.self.view_is (gone_kept c.drop_name-dropped.ensures.gone)
@@ -104,4 +104,4 @@ pub returns-clause-live : goal.returns-clause-live
 returns-clause-live c = subst (λ (s : Physical). (seen (kept c.drop_name-dropped.new.self)).held ≡ s.held) c.self.view_is (ap (λ (v : Vec (Option Held) Global). v.items) c.drop_name-dropped.ensures.held)
 
 pub returns-clause-pages : goal.returns-clause-pages
-returns-clause-pages c = subst (λ (s : Physical). SamePages s (seen (kept c.drop_name-dropped.new.self))) c.self.view_is (gone_pages c.drop_name-dropped.ensures.gone)
+returns-clause-pages c = subst (λ (s : Physical). SameBlocksAndPages s (seen (kept c.drop_name-dropped.new.self))) c.self.view_is (gone_pages c.drop_name-dropped.ensures.gone)

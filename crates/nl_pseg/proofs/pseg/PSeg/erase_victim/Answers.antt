@@ -1,14 +1,14 @@
 use Rattle.nl_pseg.specs.declared.cleaned.Erasure.TheVariants.{Nothing}
-use Rattle.nl_pseg.specs.Space.{left_of, victims}
+use Rattle.nl_pseg.specs.Space.{left_in_victim, victims}
 use Rattle.std.proofs.Common.{◌≡◌, sym, subst, ◌↔◌}
 use Rattle.nl_pseg.specs.Copies.{ErasesIfDone, ErasesOn}
 use Rattle.nl_pseg.specs.Segment.{Physical, IsPhysicalOf}
-use Rattle.nl_pseg.specs.Seen.{seen, Fits}
+use Rattle.nl_pseg.specs.Seen.{seen, FitsPhysical}
 use Rattle.nl_pseg.specs.Kept.{kept}
 use Rattle.nl_pseg.proofs.pseg.PSeg.erase_victim.Goals as goal
 
 pub erase_victim-erased-requires-clause-fits : goal.erase_victim-erased-requires-clause-fits
-erase_victim-erased-requires-clause-fits g c = subst (λ (s : Physical). Fits (g.M.Nand.geometry c.args.media.now) s) (sym c.self.view_is) c.requires.fits
+erase_victim-erased-requires-clause-fits g c = subst (λ (s : Physical). FitsPhysical (g.M.Nand.geometry c.args.media.now) s) (sym c.self.view_is) c.requires.fits
 
 pub erase_victim-erased-requires-clause-segment : goal.erase_victim-erased-requires-clause-segment
 erase_victim-erased-requires-clause-segment g c t = subst (IsPhysicalOf (g.M.Nand.contents c.args.media.now)) (sym c.self.view_is) (c.requires.segment t)
@@ -26,7 +26,7 @@ pub returns-clause-whole : goal.returns-clause-whole
 returns-clause-whole g c = c.whole.ensures.whole
 
 pub returns-clause-nothing : goal.returns-clause-nothing
-returns-clause-nothing g c = subst (λ (s : Physical). (c.erase_victim-erased.result ≡ Nothing) ↔ ((victims s ≡ 1) × (left_of s ≡ 0) → ⊥)) c.self.view_is c.erase_victim-erased.ensures.nothing
+returns-clause-nothing g c = subst (λ (s : Physical). (c.erase_victim-erased.result ≡ Nothing) ↔ ((victims s ≡ 1) × (left_in_victim s ≡ 0) → ⊥)) c.self.view_is c.erase_victim-erased.ensures.nothing
 
 pub returns-clause-refused : goal.returns-clause-refused
 returns-clause-refused g c is = c.erase_victim-erased.ensures.refused is

@@ -1,10 +1,10 @@
 use Rattle.std.proofs.Common.{◌≡◌, ⊎_elim, ◌↔◌, None, set, refl, sym, ◌∙◌, ap, subst, IsTrue}
 use Rattle.std.proofs.lemmas.Bool.{OnFalse_at, OnTrue_at, OnTrue_from, cases_Bool}
 use Rattle.nl_field.specs.Live.{resolve}
-use Rattle.nl_pseg.specs.Segment.{HasSpare, IsClean, IsLive, IsPhysicalOf, KeepsBlock, Physical, SamePages, without_target}
+use Rattle.nl_pseg.specs.Segment.{CanSpareBlock, IsClean, IsLive, IsPhysicalOf, KeepsBlock, Physical, SameBlocksAndPages, without_target}
 use Rattle.nl_pseg.specs.Seen.{seen}
-use Rattle.nl_pseg.specs.Space.{GivesBack, HasFewPairs, Lessens}
-use Rattle.nl_pseg.specs.Steps.{Ends}
+use Rattle.nl_pseg.specs.Space.{GivesBackBlocks, HasFewPairs, Lessens}
+use Rattle.nl_pseg.specs.Steps.{EndsPage}
 use Rattle.nl_pseg.proofs.After.{ended_back, ended_few, ended_space}
 use Rattle.nl_pseg.proofs.Ended.{ended_was, gone_clean, gone_kept, gone_pages, gone_segment, gone_spare, nothing_back, nothing_lessens}
 use Rattle.nl_pseg.proofs.States.{kept_dead, within_length}
@@ -42,8 +42,8 @@ returns-clause-pages c =
     let s = kept c.self.inside.state in
     let x = kept c.free-freed.new.self in
     let d = c.free-freed.ensures in
-    subst (λ (o : Physical). SamePages o (seen x)) c.self.view_is
-    (⊎_elim (λ yes. (let e : Ends (resolve (seen s).pairs c.args.at.name) (seen s) (seen x) = OnTrue_at yes d.ended in gone_pages e.gone)) (λ no. subst (SamePages (seen s)) (sym (OnFalse_at no d.kept)) (record { same_first = refl; same_blocks = refl; same_size = refl; same_wear = λ b. refl })) (cases_Bool c.free-freed.result))
+    subst (λ (o : Physical). SameBlocksAndPages o (seen x)) c.self.view_is
+    (⊎_elim (λ yes. (let e : EndsPage (resolve (seen s).pairs c.args.at.name) (seen s) (seen x) = OnTrue_at yes d.ended in gone_pages e.gone)) (λ no. subst (SameBlocksAndPages (seen s)) (sym (OnFalse_at no d.kept)) (record { same_first = refl; same_blocks = refl; same_size = refl; same_wear = λ b. refl })) (cases_Bool c.free-freed.result))
 
 pub returns-clause-space : goal.returns-clause-space
 returns-clause-space c =
@@ -63,10 +63,10 @@ returns-clause-back c =
     let x = kept c.free-freed.new.self in
     let i = c.self.invariant in
     let d = c.free-freed.ensures in
-    subst (λ (o : Physical). GivesBack o (seen x)) c.self.view_is
+    subst (λ (o : Physical). GivesBackBlocks o (seen x)) c.self.view_is
     (⊎_elim
     (λ yes. ended_back s x i.0 i.1 i.3 i.2 d.formed d.tied c.table.ensures (OnTrue_at yes d.ended))
-    (λ no. subst (GivesBack (seen s)) (sym (OnFalse_at no d.kept)) (nothing_back (seen s)))
+    (λ no. subst (GivesBackBlocks (seen s)) (sym (OnFalse_at no d.kept)) (nothing_back (seen s)))
     (cases_Bool c.free-freed.result))
 
 pub returns-clause-segment : goal.returns-clause-segment
@@ -77,7 +77,7 @@ returns-clause-segment c image =
     let d = c.free-freed.ensures in
     subst (λ (o : Physical). IsPhysicalOf image o → IsPhysicalOf image (seen x)) c.self.view_is
     (⊎_elim
-    (λ yes. (let e : Ends (resolve (seen s).pairs c.args.at.name) (seen s) (seen x) = OnTrue_at yes d.ended in gone_segment e.gone (ended_was e (within_length s i.0 (resolve (seen s).pairs c.args.at.name) e.within)) image))
+    (λ yes. (let e : EndsPage (resolve (seen s).pairs c.args.at.name) (seen s) (seen x) = OnTrue_at yes d.ended in gone_segment e.gone (ended_was e (within_length s i.0 (resolve (seen s).pairs c.args.at.name) e.within)) image))
     (λ no is. subst (IsPhysicalOf image) (sym (OnFalse_at no d.kept)) is)
     (cases_Bool c.free-freed.result))
 
@@ -87,10 +87,10 @@ returns-clause-spare c image =
     let x = kept c.free-freed.new.self in
     let i = c.self.invariant in
     let d = c.free-freed.ensures in
-    subst (λ (o : Physical). HasSpare image o → HasSpare image (seen x)) c.self.view_is
+    subst (λ (o : Physical). CanSpareBlock image o → CanSpareBlock image (seen x)) c.self.view_is
     (⊎_elim
-    (λ yes. (let e : Ends (resolve (seen s).pairs c.args.at.name) (seen s) (seen x) = OnTrue_at yes d.ended in gone_spare e.gone (ended_was e (within_length s i.0 (resolve (seen s).pairs c.args.at.name) e.within)) image))
-    (λ no is. subst (HasSpare image) (sym (OnFalse_at no d.kept)) is)
+    (λ yes. (let e : EndsPage (resolve (seen s).pairs c.args.at.name) (seen s) (seen x) = OnTrue_at yes d.ended in gone_spare e.gone (ended_was e (within_length s i.0 (resolve (seen s).pairs c.args.at.name) e.within)) image))
+    (λ no is. subst (CanSpareBlock image) (sym (OnFalse_at no d.kept)) is)
     (cases_Bool c.free-freed.result))
 
 pub returns-clause-kept_block : goal.returns-clause-kept_block
@@ -99,7 +99,7 @@ returns-clause-kept_block c =
     let x = kept c.free-freed.new.self in
     let d = c.free-freed.ensures in
     subst (λ (o : Physical). KeepsBlock o → KeepsBlock (seen x)) c.self.view_is
-    (⊎_elim (λ yes. (let e : Ends (resolve (seen s).pairs c.args.at.name) (seen s) (seen x) = OnTrue_at yes d.ended in gone_kept e.gone)) (λ no is. subst KeepsBlock (sym (OnFalse_at no d.kept)) is) (cases_Bool c.free-freed.result))
+    (⊎_elim (λ yes. (let e : EndsPage (resolve (seen s).pairs c.args.at.name) (seen s) (seen x) = OnTrue_at yes d.ended in gone_kept e.gone)) (λ no is. subst KeepsBlock (sym (OnFalse_at no d.kept)) is) (cases_Bool c.free-freed.result))
 
 pub returns-clause-kept_dead : goal.returns-clause-kept_dead
 returns-clause-kept_dead c = kept_dead (kept c.free-freed.new.self) c.free-freed.ensures.formed
@@ -110,4 +110,4 @@ returns-clause-clean c =
     let x = kept c.free-freed.new.self in
     let d = c.free-freed.ensures in
     subst (λ (o : Physical). IsClean o → IsClean (seen x)) c.self.view_is
-    (⊎_elim (λ yes. (let e : Ends (resolve (seen s).pairs c.args.at.name) (seen s) (seen x) = OnTrue_at yes d.ended in gone_clean e.gone)) (λ no is. subst IsClean (sym (OnFalse_at no d.kept)) is) (cases_Bool c.free-freed.result))
+    (⊎_elim (λ yes. (let e : EndsPage (resolve (seen s).pairs c.args.at.name) (seen s) (seen x) = OnTrue_at yes d.ended in gone_clean e.gone)) (λ no is. subst IsClean (sym (OnFalse_at no d.kept)) is) (cases_Bool c.free-freed.result))

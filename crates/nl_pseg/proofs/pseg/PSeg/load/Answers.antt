@@ -1,7 +1,7 @@
 use Rattle.std.proofs.Common.{inl, ◌∙◌, ap, subst, sym}
 use Rattle.nl_pseg.specs.Segment.{CanLead, IsDead, Physical}
 use Rattle.nl_pseg.specs.Seen.{seen}
-use Rattle.nl_pseg.specs.Steps.{Loads}
+use Rattle.nl_pseg.specs.Steps.{LoadsHeldPage}
 use Rattle.nl_pseg_blocks.specs.Uses.{Use}
 use Rattle.nl_pseg.proofs.Ended.{few_none}
 use Rattle.nl_pseg.proofs.Holds.{kept_some}
@@ -24,7 +24,7 @@ returns-clause-spare c image some = free_spare (kept c.load_as.new.self) c.load_
 
 pub returns-clause-loads : goal.returns-clause-loads
 returns-clause-loads c =
-    subst (λ (s : Physical). Loads c.args.page c.args.at c.args.tag s (seen (kept c.load_as.new.self))) c.self.view_is c.load_as.ensures.loads
+    subst (λ (s : Physical). LoadsHeldPage c.args.page c.args.at c.args.tag s (seen (kept c.load_as.new.self))) c.self.view_is c.load_as.ensures.loads
 
 pub returns-clause-whole : goal.returns-clause-whole
 returns-clause-whole c =

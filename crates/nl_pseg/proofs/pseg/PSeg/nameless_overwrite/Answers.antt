@@ -1,9 +1,9 @@
 use Rattle.std.proofs.Common.{◌≡◌, ◌⊎◌, ◌↔◌, subst, sym}
 use Rattle.nl_field.specs.Live.{resolve}
 use Rattle.nl_field.specs.declared.answers.Named.TheVariants.{NoPage, NotLive}
-use Rattle.nl_pseg.specs.Effects.{Counted}
-use Rattle.nl_pseg.specs.Segment.{HasSpare, Physical, IsLive, IsReady, IsPhysicalOf, room}
-use Rattle.nl_pseg.specs.Seen.{seen, Fits}
+use Rattle.nl_pseg.specs.Effects.{WriteCounted}
+use Rattle.nl_pseg.specs.Segment.{CanSpareBlock, Physical, IsLive, NeedsNoErase, IsPhysicalOf, room}
+use Rattle.nl_pseg.specs.Seen.{seen, FitsPhysical}
 use Rattle.nl_pseg.specs.Writes.{ReplacesPage, WritesOn}
 use Rattle.nl_pseg.proofs.Overwrote.{over_few, over_replaces, over_spare}
 use Rattle.nl_pseg.specs.Kept.{kept}
@@ -18,7 +18,7 @@ whole-requires-clause-few g c =
 pub returns-clause-counts : goal.returns-clause-counts
 returns-clause-counts g c =
     let e = c.overwrite-named.ensures in
-    subst (λ (s : Physical). Counted g.M.Nand.clock g.M.Nand.read_faults g.M.Nand.write_faults (IsReady s) c.args.media.now c.overwrite-named.new.media c.overwrite-named.result) c.self.view_is
+    subst (λ (s : Physical). WriteCounted g.M.Nand.clock g.M.Nand.read_faults g.M.Nand.write_faults (NeedsNoErase s) c.args.media.now c.overwrite-named.new.media c.overwrite-named.result) c.self.view_is
     (e.counts)
 
 pub returns-clause-live : goal.returns-clause-live
@@ -46,7 +46,7 @@ pub overwrite-named-requires-clause-tied : goal.overwrite-named-requires-clause-
 overwrite-named-requires-clause-tied g c = c.self.invariant.1
 
 pub overwrite-named-requires-clause-fits : goal.overwrite-named-requires-clause-fits
-overwrite-named-requires-clause-fits g c = subst (λ (s : Physical). Fits (g.M.Nand.geometry c.args.media.now) s) (sym c.self.view_is) c.requires.fits
+overwrite-named-requires-clause-fits g c = subst (λ (s : Physical). FitsPhysical (g.M.Nand.geometry c.args.media.now) s) (sym c.self.view_is) c.requires.fits
 
 pub overwrite-named-requires-clause-stamp : goal.overwrite-named-requires-clause-stamp
 overwrite-named-requires-clause-stamp g c = c.requires.stamp
@@ -85,5 +85,5 @@ returns-clause-spare g c t =
     let n = kept c.overwrite-named.new.self in
     let i = c.self.invariant in
     let e = c.overwrite-named.ensures in
-    subst (λ (o : Physical). HasSpare (g.M.Nand.contents c.args.media.now) o → HasSpare (g.M.Nand.contents c.overwrite-named.new.media) (seen n)) c.self.view_is
+    subst (λ (o : Physical). CanSpareBlock (g.M.Nand.contents c.args.media.now) o → CanSpareBlock (g.M.Nand.contents c.overwrite-named.new.media) (seen n)) c.self.view_is
     (over_spare c.overwrite-named.result (resolve (seen s).pairs c.args.old.name) c.args.stamp _ s n i.0 i.1 i.3 i.2 e.formed e.tied c.table.ensures e.over (e.medium t).crash)

@@ -1,8 +1,8 @@
 use Rattle.nl_field.specs.declared.answers.Named.TheVariants.{NoPage}
 use Rattle.std.proofs.Common.{subst, ◌≡◌, ◌↔◌, sym}
-use Rattle.nl_pseg.specs.Effects.{Counted}
-use Rattle.nl_pseg.specs.Segment.{HasSpare, Physical, IsReady, IsPhysicalOf, room}
-use Rattle.nl_pseg.specs.Seen.{seen, Fits}
+use Rattle.nl_pseg.specs.Effects.{WriteCounted}
+use Rattle.nl_pseg.specs.Segment.{CanSpareBlock, Physical, NeedsNoErase, IsPhysicalOf, room}
+use Rattle.nl_pseg.specs.Seen.{seen, FitsPhysical}
 use Rattle.nl_pseg.specs.Writes.{AddsPage, WritesOn}
 use Rattle.nl_pseg.proofs.Wrote.{placed_adds, placed_few, placed_spare}
 use Rattle.nl_pseg.specs.Kept.{kept}
@@ -16,7 +16,7 @@ whole-requires-clause-few g c =
 
 pub returns-clause-counts : goal.returns-clause-counts
 returns-clause-counts g c =
-    subst (λ (s : Physical). Counted g.M.Nand.clock g.M.Nand.read_faults g.M.Nand.write_faults (IsReady s) c.args.media.now c.write-named.new.media c.write-named.result) c.self.view_is c.write-named.ensures.counts
+    subst (λ (s : Physical). WriteCounted g.M.Nand.clock g.M.Nand.read_faults g.M.Nand.write_faults (NeedsNoErase s) c.args.media.now c.write-named.new.media c.write-named.result) c.self.view_is c.write-named.ensures.counts
 
 pub write-named-requires-clause-formed : goal.write-named-requires-clause-formed
 write-named-requires-clause-formed g c = c.self.invariant.0
@@ -25,7 +25,7 @@ pub write-named-requires-clause-tied : goal.write-named-requires-clause-tied
 write-named-requires-clause-tied g c = c.self.invariant.1
 
 pub write-named-requires-clause-fits : goal.write-named-requires-clause-fits
-write-named-requires-clause-fits g c = subst (λ (s : Physical). Fits (g.M.Nand.geometry c.args.media.now) s) (sym c.self.view_is) c.requires.fits
+write-named-requires-clause-fits g c = subst (λ (s : Physical). FitsPhysical (g.M.Nand.geometry c.args.media.now) s) (sym c.self.view_is) c.requires.fits
 
 pub write-named-requires-clause-stamp : goal.write-named-requires-clause-stamp
 write-named-requires-clause-stamp g c = c.requires.stamp
@@ -73,5 +73,5 @@ returns-clause-spare g c t =
     let n = kept c.write-named.new.self in
     let i = c.self.invariant in
     let e = c.write-named.ensures in
-    subst (λ (o : Physical). HasSpare (g.M.Nand.contents c.args.media.now) o → HasSpare (g.M.Nand.contents c.write-named.new.media) (seen n)) c.self.view_is
+    subst (λ (o : Physical). CanSpareBlock (g.M.Nand.contents c.args.media.now) o → CanSpareBlock (g.M.Nand.contents c.write-named.new.media) (seen n)) c.self.view_is
     (placed_spare c.write-named.result c.args.stamp _ s n i.0 i.1 i.3 i.2 e.formed e.tied c.table.ensures e.placing (e.medium t).crash)

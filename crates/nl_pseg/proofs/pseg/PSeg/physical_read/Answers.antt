@@ -1,4 +1,4 @@
-use Rattle.nl_pseg.specs.Seen.{Fits}
+use Rattle.nl_pseg.specs.Seen.{FitsPhysical}
 use Rattle.nl_field.specs.declared.answers.NamedRead.TheVariants.{Done, Fault}
 use Rattle.nl_field.specs.Page.{page_at, written}
 use Rattle.std.proofs.Common.{subst, ◌≡◌, ◌⊎◌, Some, sym, refl}
@@ -14,7 +14,7 @@ pub read-requires-clause-formed : goal.read-requires-clause-formed
 read-requires-clause-formed g c = c.self.invariant.0
 
 pub read-requires-clause-fits : goal.read-requires-clause-fits
-read-requires-clause-fits g c = subst (λ (s : Physical). Fits (g.M.Nand.geometry c.args.media.now) s) (sym c.self.view_is) c.requires.fits
+read-requires-clause-fits g c = subst (λ (s : Physical). FitsPhysical (g.M.Nand.geometry c.args.media.now) s) (sym c.self.view_is) c.requires.fits
 
 pub read-requires-clause-segment : goal.read-requires-clause-segment
 read-requires-clause-segment g c t = subst (IsPhysicalOf (g.M.Nand.contents c.args.media.now)) (sym c.self.view_is) (c.requires.segment t)

@@ -3,7 +3,7 @@ use Rattle.nl_field.specs.Page.{Image}
 use Rattle.nl_pseg.specs.Kept.{kept}
 use Rattle.nl_pseg.specs.Opened.{Soils}
 use Rattle.nl_pseg.specs.Seen.{seen}
-use Rattle.nl_pseg.specs.Segment.{HasSpare, KeepsBlock, Physical}
+use Rattle.nl_pseg.specs.Segment.{CanSpareBlock, KeepsBlock, Physical}
 use Rattle.nl_pseg.proofs.Ended.{few_none}
 use Rattle.nl_pseg.proofs.Soiled.{soils_kept, soils_spare}
 use Rattle.nl_pseg.proofs.pseg.PSeg.soiled.Goals as goal
@@ -54,4 +54,4 @@ returns-clause-kept c =
 
 pub returns-clause-spare : goal.returns-clause-spare
 returns-clause-spare c =
-    subst (λ (s : Physical). (image : Image) → HasSpare image s → HasSpare image (seen (kept c.soil.new.self))) c.self.view_is (soils_spare c.soil.ensures.soils)
+    subst (λ (s : Physical). (image : Image) → CanSpareBlock image s → CanSpareBlock image (seen (kept c.soil.new.self))) c.self.view_is (soils_spare c.soil.ensures.soils)

@@ -3,7 +3,7 @@ use Rattle.nl_blocks.specs.Used.{is_target_state, used_in}
 use Rattle.nl_pseg.proofs.Closed.{as_counted}
 use Rattle.nl_pseg.specs.Kept.{Kept, all_filled, kept}
 use Rattle.nl_pseg.specs.Steps.{aimed_at}
-use Rattle.nl_pseg.specs.Seen.{IsFormed, IsTied, seen}
+use Rattle.nl_pseg.specs.Seen.{IsPhysicalFormed, IsTied, seen}
 use Rattle.std.proofs.Common.{None, subst, arith, refl, ◌*◌, ◌+◌, ◌-◌, ◌≡◌}
 use Rattle.nl_pseg.proofs.Aimed.{aimed_tied}
 use Rattle.nl_pseg.proofs.Forms.{formed_marks}
@@ -14,8 +14,8 @@ returns-clause-formed c =
     let s = all_filled (kept c.args.self.now) in
     let x = formed_marks s c.args.block None c.requires.formed in
     let new : Kept = record s { soiled = with_item s.soiled c.args.block None; target = c.args.block; filled = 0 } in
-    let formed : IsFormed new = record { some = x.some; numbers = x.numbers; pages = x.pages; marks = x.marks; active_in = x.active_in; used_fits = x.used_fits; taken = x.taken; places = record { each = λ p h held. let w = x.places.each p h held in record { within = w.within; in_use = w.in_use; behind = w.behind; spelled = w.spelled } }; marked = x.marked } in
-    subst IsFormed (as_counted new _ _ refl c.requires.unused) formed
+    let formed : IsPhysicalFormed new = record { some = x.some; numbers = x.numbers; pages = x.pages; marks = x.marks; active_in = x.active_in; used_fits = x.used_fits; taken = x.taken; places = record { each = λ p h held. let w = x.places.each p h held in record { within = w.within; in_use = w.in_use; behind = w.behind; spelled = w.spelled } }; marked = x.marked } in
+    subst IsPhysicalFormed (as_counted new _ _ refl c.requires.unused) formed
 
 pub returns-clause-tied : goal.returns-clause-tied
 returns-clause-tied c =

@@ -1,11 +1,11 @@
 use Rattle.nl_pseg.proofs.Closed.{same_counted}
-use Rattle.nl_pseg.specs.Steps.{NamesGone}
+use Rattle.nl_pseg.specs.Steps.{NamesGoneFromSegment}
 use Rattle.std.proofs.Common.{rules, ◌≡◌, inl, inr, ⊎_elim, ◌+◌, ◌-◌, ◌/◌, refl, sym, ◌∙◌, ap, subst, remove, length, arith}
 use Rattle.std.proofs.lemmas.Bool.{cases_eq, true≢false}
 use Rattle.nl_blocks.specs.Table.{HasBlock, after_erase, block_at, is_retired_state, names_of}
 use Rattle.nl_remap.specs.Table.{IsOld, place_of}
 use Rattle.nl_pseg_names.specs.OldNames.{NameTable}
-use Rattle.nl_pseg.specs.Seen.{IsTied, IsFormed, seen}
+use Rattle.nl_pseg.specs.Seen.{IsTied, IsPhysicalFormed, seen}
 use Rattle.nl_remap.proofs.TableProofs.{IsOld-remove_back}
 use Rattle.nl_pseg_blocks.specs.Uses.{use_in, Use}
 use Rattle.nl_pseg.proofs.Dropped.{dropped_tied, formed_names, not_free_state}
@@ -27,7 +27,7 @@ returns-then-is_waiting-clause-formed c =
     let s = kept c.args.self.now in
     let is = c.requires.formed in
     let retired = (c.is_waiting.ensures.yes c.if-is_waiting.true).1 in
-    subst (λ (k : Kept). IsFormed (record k { blocks = c.end_name.new.blocks; names = c.drop_name.new.self })) (same_counted c.args.self.now c.requires.formed c.requires.tied c.end_name.new.blocks c.end_name.ensures.fill)
+    subst (λ (k : Kept). IsPhysicalFormed (record k { blocks = c.end_name.new.blocks; names = c.drop_name.new.self })) (same_counted c.args.self.now c.requires.formed c.requires.tied c.end_name.new.blocks c.end_name.ensures.fill)
     (formed_names s is c.end_name.new.blocks c.drop_name.new.self c.end_name.ensures.numbers c.end_name.ensures.kept c.end_name.ensures.marks
     (λ room. c.end_name.ensures.others s.active is.active_in (λ e. true≢false (sym retired ∙ (ap (λ b. is_retired_state (block_at s.blocks b).state) (sym e) ∙ ap is_retired_state (is.taken room)))) ∙ is.taken room))
 
@@ -90,7 +90,7 @@ returns-then-is_waiting-clause-gone c =
     let yes = c.is_waiting.ensures.yes c.if-is_waiting.true in
     let old : IsOld s.names.pairs c.args.name = search rules in
     let taken : c.drop_name.new.self ≡ record s.names { pairs = remove s.names.pairs (place_of s.names.pairs c.args.name); room = s.names.room + 1 } = search rules in
-    subst (λ (k : Kept). NamesGone (seen s) (seen (record k { blocks = c.end_name.new.blocks; names = c.drop_name.new.self }))) (same_counted c.args.self.now c.requires.formed c.requires.tied c.end_name.new.blocks c.end_name.ensures.fill)
+    subst (λ (k : Kept). NamesGoneFromSegment (seen s) (seen (record k { blocks = c.end_name.new.blocks; names = c.drop_name.new.self }))) (same_counted c.args.self.now c.requires.formed c.requires.tied c.end_name.new.blocks c.end_name.ensures.fill)
     (gone_names s c.end_name.new.blocks c.drop_name.new.self c.end_name.ensures.numbers c.end_name.ensures.kept c.end_name.ensures.wears
     (λ b free. ⊎_elim
     (λ e. absurd (true≢false (sym (ap (λ k. (use_in s.blocks k).is_free) (sym e) ∙ free) ∙ (ap (λ (u : Use). u.is_free) (use_here s.blocks block yes.0) ∙ not_free_state (block_at s.blocks block).state yes.1))))

@@ -2,7 +2,7 @@ use Rattle.std.specs.Vec.{with_item}
 use Rattle.nl_pseg.proofs.Lives.{live_counted, live_filled, live_used}
 use Rattle.nl_pseg.specs.Segment.{IsUnspent}
 use Rattle.std.proofs.Common.{None, ◌∙◌, arith, refl, subst}
-use Rattle.nl_pseg.specs.Seen.{seen, IsFormed, IsTied}
+use Rattle.nl_pseg.specs.Seen.{seen, IsPhysicalFormed, IsTied}
 use Rattle.nl_pseg.specs.Kept.{Kept, kept}
 use Rattle.nl_pseg.proofs.Forms.{formed_page, use_places, same_pages, same_unspent}
 use Rattle.nl_pseg.proofs.Segments.{ended_places}
@@ -29,7 +29,7 @@ returns-clause-formed c =
     let x : Kept = record s { blocks = c.mark.new.blocks } in
     let same = c.mark.ensures.same in
     let within = within_length s is c.args.page c.requires.within in
-    subst (λ (k : Kept). IsFormed (record k { held = with_item s.held c.args.page None; blocks = c.mark.new.blocks })) (live_counted c.args.self.now is c.requires.tied c.args.page c.requires.live c.mark.new.blocks c.mark.ensures.uses c.mark.ensures.fills)
+    subst (λ (k : Kept). IsPhysicalFormed (record k { held = with_item s.held c.args.page None; blocks = c.mark.new.blocks })) (live_counted c.args.self.now is c.requires.tied c.args.page c.requires.live c.mark.new.blocks c.mark.ensures.uses c.mark.ensures.fills)
     (formed_page s is c.mark.new.blocks same c.args.page None c.mark.ensures.marked within (λ room. c.mark.ensures.states s.active ∙ is.taken room)
     (ended_places (seen x) c.args.page within (use_places s c.mark.new.blocks is same)))
 

@@ -7,7 +7,7 @@ use Rattle.nl_blocks.specs.declared.states.BlockState.TheVariants.{Free}
 use Rattle.nl_blocks.specs.Table.{block_at}
 use Rattle.nl_remap.specs.Links.{link_at}
 use Rattle.nl_pseg.specs.Seen.{seen}
-use Rattle.nl_pseg.specs.Steps.{IsIdle}
+use Rattle.nl_pseg.specs.Steps.{ClosesBlock}
 use Rattle.nl_pseg_blocks.specs.Uses.{Use, SameNumbers}
 use Rattle.nl_pseg.specs.Kept.{Kept, kept}
 use Rattle.nl_pseg.proofs.Closed.{closed_by, closing}
@@ -36,7 +36,7 @@ returns-clause-tied c =
     let g = c.give_back.ensures in
     let x : Kept = record m { blocks = c.give_back.new.blocks; soiled = with_item m.soiled c.args.block (Some c.wear-wear.result) } in
     let n : SameNumbers s.blocks x.blocks = g.numbers in
-    let i : IsIdle c.args.block s x = record { active = refl; target = refl; used = e.shut.used; filled = e.shut.filled } in
+    let i : ClosesBlock c.args.block s x = record { active = refl; target = refl; used = e.shut.used; filled = e.shut.filled } in
     let state : (block_at x.blocks c.args.block).state ≡ Free = free_state_is c.give_back.new.blocks c.args.block (has_same c.args.block n c.requires.within) (ap (λ (u : Use). u.is_free) g.here) in
     served_tied s x c.requires.tied c.args.block i n c.requires.no_victim refl (free_set _ state)
     g.states

@@ -1,4 +1,4 @@
-use Rattle.nl_pseg.specs.Space.{left_of}
+use Rattle.nl_pseg.specs.Space.{left_in_victim}
 use Rattle.nl_pseg.proofs.Small.{one_page, some_room, can_program}
 use Rattle.nl_pseg.proofs.Apart.{wrote_done_failed, moved_fault}
 use Rattle.std.proofs.Common.{◌≡◌, cond, ℕ, ◌+◌, ◌*◌, ◌/◌, ◌<◌, Option, Some, None, List, length, get_or, refl, sym, ◌∙◌, ap, subst, is_some, length-set}
@@ -131,7 +131,7 @@ lead-requires-clause-room g c =
     let told = told_length s.names.pairs in
     let some = c.requires.consistent.formed.some in
     let same = used.pair_room in
-    some_room (left_of (seen s)) all few told some same
+    some_room (left_in_victim (seen s)) all few told some same
 
 pub returns-in-Failed-clause-geometry : goal.returns-in-Failed-clause-geometry
 returns-in-Failed-clause-geometry g c = c.program_page.ensures.geometry

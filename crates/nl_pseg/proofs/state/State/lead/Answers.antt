@@ -4,7 +4,7 @@ use Rattle.nl_pseg.specs.Segment.{held_at}
 use Rattle.std.specs.Vec.{with_item}
 use Rattle.nl_pseg.proofs.Lives.{live_counted, live_filled, live_used}
 use Rattle.nl_pseg.specs.Steps.{IsLed}
-use Rattle.nl_pseg.specs.Seen.{IsFormed, IsTied, seen}
+use Rattle.nl_pseg.specs.Seen.{IsPhysicalFormed, IsTied, seen}
 use Rattle.std.proofs.Common.{◌/◌, None, arith, subst}
 use Rattle.nl_pseg.proofs.Led.{fresh, fresh_after, led_formed, led_now, led_tied}
 use Rattle.nl_pseg.specs.Kept.{kept, Kept}
@@ -12,7 +12,7 @@ use Rattle.nl_pseg.proofs.state.State.lead.Goals as goal
 
 pub returns-clause-formed : goal.returns-clause-formed
 returns-clause-formed c =
-    subst (λ (k : Kept). IsFormed (record k { held = with_item c.args.self.now.held c.args.before None; blocks = c.mark.new.blocks; names = c.add.new.self }))
+    subst (λ (k : Kept). IsPhysicalFormed (record k { held = with_item c.args.self.now.held c.args.before None; blocks = c.mark.new.blocks; names = c.add.new.self }))
     (live_counted c.args.self.now c.requires.formed c.requires.tied c.args.before c.requires.live c.mark.new.blocks c.mark.ensures.uses c.mark.ensures.fills)
     (led_formed (kept c.args.self.now) c.requires.formed c.requires.tied c.args.before c.args.after c.requires.victim c.requires.live c.requires.there c.requires.apart c.mark.new.blocks c.mark.ensures.same c.mark.ensures.states c.add.new.self c.add.ensures.added c.add.ensures.table c.requires.room c.mark.ensures.marked)
 

@@ -8,8 +8,8 @@ use Rattle.nl_blocks.specs.Table.{block_at, free_count}
 use Rattle.nl_blocks.specs.Used.{is_active_state, is_target_state}
 use Rattle.nl_remap.specs.Table.{IsOld}
 use Rattle.nl_pseg.specs.Segment.{InSegment, held_at, is_kept}
-use Rattle.nl_pseg.specs.Seen.{IsPlace, seen}
-use Rattle.nl_pseg.specs.Steps.{IsIdle}
+use Rattle.nl_pseg.specs.Seen.{IsLivePlace, seen}
+use Rattle.nl_pseg.specs.Steps.{ClosesBlock}
 use Rattle.nl_pseg_blocks.specs.Uses.{Use, use_in, SameNumbers}
 use Rattle.nl_pseg.specs.declared.held.Held.{Held}
 use Rattle.nl_pseg.specs.Kept.{Kept, kept}
@@ -45,7 +45,7 @@ returns-clause-formed c =
     let count : length t.blocks ≡ length c.args.self.now.blocks.blocks = n.same_count in
     let high : (t.first + length t.blocks) * t.size ≡ (c.args.self.now.blocks.first + length c.args.self.now.blocks.blocks) * c.args.self.now.blocks.size = (λ i. (n.same_first i + count i) * n.same_size i) in
     (omega (arith, low, c.requires.dead.within.0), omega (arith, high, c.requires.dead.within.1))) in
-    let place : IsPlace (record (seen x) { held = set s.held.items c.args.page (Some h) }) c.args.page h = record {
+    let place : IsLivePlace (record (seen x) { held = set s.held.items c.args.page (Some h) }) c.args.page h = record {
       within = within;
       in_use = ap (λ b. (use_in t b).is_kept) same_block ∙ free;
       behind = λ next.
@@ -88,7 +88,7 @@ returns-clause-tied c =
     let h : Held = record { tag = c.args.tag; stamp = c.args.stamp } in
     let x : Kept = record m { held = with_item m.held c.args.page (Some h); blocks = t } in
     let n : SameNumbers s.blocks t = numbers_then r.numbers c.mark.ensures.same.numbers in
-    let i : IsIdle block s x = record { active = refl; target = refl; used = e.shut.used; filled = e.shut.filled } in
+    let i : ClosesBlock block s x = record { active = refl; target = refl; used = e.shut.used; filled = e.shut.filled } in
     let state = c.mark.ensures.states block ∙ c.shut.ensures.state in
     let at : c.args.page / s.blocks.size ≡ block = ap (λ k. c.args.page / k) (sym c.pages.ensures) in
     let count = c.requires.formed.pages in
@@ -126,7 +126,7 @@ returns-clause-loads c =
     let h : Held = record { tag = c.args.tag; stamp = c.args.stamp } in
     let x : Kept = record m { held = with_item m.held c.args.page (Some h); blocks = t } in
     let n : SameNumbers s.blocks t = numbers_then r.numbers same.numbers in
-    let i : IsIdle block s x = record { active = refl; target = refl; used = e.shut.used; filled = e.shut.filled } in
+    let i : ClosesBlock block s x = record { active = refl; target = refl; used = e.shut.used; filled = e.shut.filled } in
     let apart : IsApart block (seen m) (seen x) = record {
       range = record { range_first = n.same_first; range_blocks = λ k. n.same_first k + n.same_count k; range_size = n.same_size };
       next = next_is m e.formed t n;

@@ -10,7 +10,7 @@ use Rattle.nl_pseg.specs.Cleaning.{IsMoved, programmed_by}
 use Rattle.nl_pseg.specs.Effects.{Crashes}
 use Rattle.nl_pseg_pages.specs.Pages.{main_of}
 use Rattle.nl_pseg.specs.Segment.{held_at, IsPhysicalOf}
-use Rattle.nl_pseg.specs.Seen.{seen, Fits}
+use Rattle.nl_pseg.specs.Seen.{seen, FitsPhysical}
 use Rattle.nl_pseg.specs.Steps.{ReadiedOn}
 use Rattle.nl_pseg.specs.declared.held.Held.{Held}
 use Rattle.nl_pseg.proofs.CopyImages.{keeps_spare, readied_spare}
@@ -57,7 +57,7 @@ pub ready-requires-clause-tied : goal.ready-requires-clause-tied
 ready-requires-clause-tied g c = c.requires.consistent.tied
 
 pub ready-requires-clause-fits : goal.ready-requires-clause-fits
-ready-requires-clause-fits g c = subst (λ x. Fits x (seen (kept c.args.self.now))) (sym c.read_page.ensures.geometry) c.requires.fits
+ready-requires-clause-fits g c = subst (λ x. FitsPhysical x (seen (kept c.args.self.now))) (sym c.read_page.ensures.geometry) c.requires.fits
 
 pub ready-requires-clause-lands : goal.ready-requires-clause-lands
 ready-requires-clause-lands g c = c.requires.room

@@ -8,7 +8,7 @@ use Rattle.std.proofs.Common.{⊎_elim, refl, Some, set, subst, List, None, Opti
 use Rattle.nl_field.specs.declared.answers.Named.TheVariants.{NoPage, NotLive}
 use Rattle.nl_field.specs.declared.pointer.Pointer.{Pointer}
 use Rattle.nl_pseg.specs.Seen.{seen}
-use Rattle.nl_pseg.specs.Steps.{Ends, Placing}
+use Rattle.nl_pseg.specs.Steps.{EndsPage, Placing}
 use Rattle.nl_pseg.specs.declared.held.Held.{Held}
 use Rattle.nl_pseg.proofs.Ended.{ended_was, gone_segment}
 use Rattle.nl_pseg.proofs.Placings.{nothing_on, nothing_placed}
@@ -37,7 +37,7 @@ returns-in-Placed-clause-over g c =
     record {
       mid = seen (kept c.place.new.self);
       placing = subst (λ a. Placing c.args.stamp (λ (p : Pointer). set s.held.items p.name (Some h)) a (seen s) (seen (kept c.place.new.self))) c.in-Placed.is c.place.ensures.placing;
-      ended = λ placed. subst (λ p. Ends p (seen (kept c.place.new.self)) (seen (kept c.end_all.new.self))) c.in-Some.ensures.some c.end_all.ensures.ended;
+      ended = λ placed. subst (λ p. EndsPage p (seen (kept c.place.new.self)) (seen (kept c.end_all.new.self))) c.in-Some.ensures.some c.end_all.ensures.ended;
       none = λ not. absurd (not tt);
     }
 

@@ -3,7 +3,7 @@ use Rattle.nl_pseg.proofs.Apart.{wrote_done_failed}
 use Rattle.nl_pseg.proofs.Medium.{fits_then, opening_pages}
 use Rattle.std.proofs.Common.{inl, subst, ◌∙◌, sym}
 use Rattle.nl_pseg.specs.Seen.{seen}
-use Rattle.nl_pseg.specs.Steps.{Opening, OpeningOn}
+use Rattle.nl_pseg.specs.Steps.{OpensForProgram, OpeningOn}
 use Rattle.nl_pseg.proofs.Counts.{counted_failed, counted_then}
 use Rattle.nl_pseg.proofs.Placings.{failed_on, if_placed, opening_failed, placing_then, writes_then}
 use Rattle.nl_pseg.specs.Kept.{kept}
@@ -11,7 +11,7 @@ use Rattle.nl_pseg.proofs.state.State.place.Goals as goal
 
 pub returns-in-Failed-clause-placing : goal.returns-in-Failed-clause-placing
 returns-in-Failed-clause-placing g c =
-    opening_failed c.args.stamp _ (subst (λ a. Opening a (seen (kept c.args.self.now)) (seen (kept c.start.new.self))) c.in-Failed.is c.start.ensures.opening)
+    opening_failed c.args.stamp _ (subst (λ a. OpensForProgram a (seen (kept c.args.self.now)) (seen (kept c.start.new.self))) c.in-Failed.is c.start.ensures.opening)
 
 pub returns-in-Failed-clause-medium : goal.returns-in-Failed-clause-medium
 returns-in-Failed-clause-medium g c t =
@@ -21,11 +21,11 @@ returns-in-Failed-clause-medium g c t =
 pub returns-in-Done-clause-placing : goal.returns-in-Done-clause-placing
 returns-in-Done-clause-placing g c =
     placing_then c.args.stamp (record { tag = c.args.tag; stamp = c.args.stamp }) c.requires.formed.some
-    (subst (λ a. Opening a (seen (kept c.args.self.now)) (seen (kept c.start.new.self))) c.in-Done.is c.start.ensures.opening) c.put.ensures.placing
+    (subst (λ a. OpensForProgram a (seen (kept c.args.self.now)) (seen (kept c.start.new.self))) c.in-Done.is c.start.ensures.opening) c.put.ensures.placing
 
 pub returns-in-Done-clause-medium : goal.returns-in-Done-clause-medium
 returns-in-Done-clause-medium g c t =
-    let opening = subst (λ a. Opening a (seen (kept c.args.self.now)) (seen (kept c.start.new.self))) c.in-Done.is c.start.ensures.opening in
+    let opening = subst (λ a. OpensForProgram a (seen (kept c.args.self.now)) (seen (kept c.start.new.self))) c.in-Done.is c.start.ensures.opening in
     let on = subst (λ a. OpeningOn g.M.Nand.clock g.M.Nand.contents g.M.Nand.left a (seen (kept c.args.self.now)) (seen (kept c.start.new.self)) c.args.media.now c.start.new.media) c.in-Done.is (c.start.ensures.medium t) in
     writes_then opening on c.args.tag c.args.stamp c.args.from.now.main c.put.result (if_placed c.put.result (λ at x. x.0) c.put.ensures.placing.placed) c.put.ensures.next c.put.ensures.counts.placed (c.put.ensures.medium t)
 
@@ -60,7 +60,7 @@ pub put-requires-clause-tied : goal.put-requires-clause-tied
 put-requires-clause-tied g c = c.start.ensures.tied
 
 pub put-requires-clause-fits : goal.put-requires-clause-fits
-put-requires-clause-fits g c = fits_then c.start.ensures.geometry (opening_pages (subst (λ a. Opening a (seen (kept c.args.self.now)) (seen (kept c.start.new.self))) c.in-Done.is c.start.ensures.opening)) c.requires.fits
+put-requires-clause-fits g c = fits_then c.start.ensures.geometry (opening_pages (subst (λ a. OpensForProgram a (seen (kept c.args.self.now)) (seen (kept c.start.new.self))) c.in-Done.is c.start.ensures.opening)) c.requires.fits
 
 pub put-requires-clause-stamp : goal.put-requires-clause-stamp
 put-requires-clause-stamp g c = c.requires.stamp

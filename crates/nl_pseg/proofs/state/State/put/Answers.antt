@@ -9,7 +9,7 @@ use Rattle.nl_nand.specs.Nand.{Cut}
 use Rattle.nl_field.specs.declared.answers.Named.TheVariants.{Fault, Placed}
 use Rattle.nl_pseg.specs.Steps.{IsAlone}
 use Rattle.nl_pseg_pages.specs.Pages.{page_with}
-use Rattle.nl_pseg.specs.Segment.{IsDead, IsNext, wear_of, soiled}
+use Rattle.nl_pseg.specs.Segment.{IsDead, IsNextToProgram, wear_of, soiled}
 use Rattle.nl_pseg.specs.Seen.{seen}
 use Rattle.nl_pseg_blocks.specs.Uses.{Use, use_in}
 use Rattle.nl_pseg.proofs.Images.{after_put, put_alone, put_crashes, shows_placed}
@@ -131,7 +131,7 @@ returns-in-Failed-clause-medium g c t =
     let page = c.in-Some.page in
     let at : page ≡ (seen s).next = c.in-Some.ensures.some.1 in
     let here = is_next s is room in
-    let next = subst (IsNext (seen s)) (sym at) here in
+    let next = subst (IsNextToProgram (seen s)) (sym at) here in
     let dead : IsDead (seen s) page = record { within = next_segment s is room page next; dead = dead_next (seen s) is.places page next; own = next_own s is c.requires.tied page next; apart = next_apart s is c.requires.tied room page next } in
     let worn : c.wear-wear.result ≡ wear_of (seen s) (page / s.blocks.size) = c.wear-wear.ensures ∙ sym (wear_used (use_in s.blocks (page / s.blocks.size)) (soiled (seen s) (page / s.blocks.size)) (next_in_use s is room page next) ∙ (ap (λ (b : ℕ). (use_in s.blocks b).wear) (next_block s is room page next) ∙ ap (λ (u : Use). u.wear) (use_here s.blocks s.active is.active_in))) in
     let main = ap (λ (b : PageBytes). b.main) c.copy_from.ensures in
@@ -155,7 +155,7 @@ returns-in-Done-clause-medium g c t =
     let page = c.in-Some.page in
     let at : page ≡ (seen s).next = c.in-Some.ensures.some.1 in
     let here = is_next s is room in
-    let next = subst (IsNext (seen s)) (sym at) here in
+    let next = subst (IsNextToProgram (seen s)) (sym at) here in
     let dead : IsDead (seen s) page = record { within = next_segment s is room page next; dead = dead_next (seen s) is.places page next; own = next_own s is c.requires.tied page next; apart = next_apart s is c.requires.tied room page next } in
     let worn : c.wear-wear.result ≡ wear_of (seen s) (page / s.blocks.size) = c.wear-wear.ensures ∙ sym (wear_used (use_in s.blocks (page / s.blocks.size)) (soiled (seen s) (page / s.blocks.size)) (next_in_use s is room page next) ∙ (ap (λ (b : ℕ). (use_in s.blocks b).wear) (next_block s is room page next) ∙ ap (λ (u : Use). u.wear) (use_here s.blocks s.active is.active_in))) in
     let main = ap (λ (b : PageBytes). b.main) c.copy_from.ensures in

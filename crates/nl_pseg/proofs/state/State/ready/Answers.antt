@@ -11,11 +11,11 @@ use Rattle.nl_nand.specs.ImageLaws.{filled_cut}
 use Rattle.nl_nand.specs.Nand.{Cut}
 use Rattle.nl_nand.proofs.Crashes.{operation}
 use Rattle.nl_nand.proofs.Crashes as crashes
-use Rattle.nl_pseg.specs.Effects.{Keeps}
+use Rattle.nl_pseg.specs.Effects.{PreservesSegment}
 use Rattle.nl_pseg.specs.Segment.{Physical, IsPhysicalOf, is_free, is_kept, is_soiled}
-use Rattle.nl_pseg.specs.Seen.{seen, IsFormed, IsTied}
+use Rattle.nl_pseg.specs.Seen.{seen, IsPhysicalFormed, IsTied}
 use Rattle.nl_pseg.specs.Steps.{IsReadied, aimed_at}
-use Rattle.nl_pseg_blocks.specs.Uses.{Use, use_in, Restated}
+use Rattle.nl_pseg_blocks.specs.Uses.{Use, use_in, SetsUse}
 use Rattle.nl_pseg.proofs.Aimed.{again_readied, aimed_readied}
 use Rattle.nl_pseg.proofs.Forms.{formed_same}
 use Rattle.nl_pseg.proofs.Images.{erase_keeps, erase_others, keeps_nothing}
@@ -41,7 +41,7 @@ aim-requires-clause-formed g c =
     let has = c.take_target-block.ensures.has in
     let free = c.take_target-block.ensures.was_free in
     let r = c.take_target-block.ensures.taken in
-    subst (λ (k : Kept). IsFormed (record k { blocks = c.take_target-block.new.blocks })) (targeted_counted c.args.self.now c.requires.formed c.requires.tied c.take_target-block.new.blocks c.take_target-block.ensures.taken.numbers (full_is c.args.self.now c.next_copy.result c.next_copy.ensures.none (sym c.is_some.ensures ∙ c.if-is_some.false)) c.take_target-block.ensures.used)
+    subst (λ (k : Kept). IsPhysicalFormed (record k { blocks = c.take_target-block.new.blocks })) (targeted_counted c.args.self.now c.requires.formed c.requires.tied c.take_target-block.new.blocks c.take_target-block.ensures.taken.numbers (full_is c.args.self.now c.next_copy.result c.next_copy.ensures.none (sym c.is_some.ensures ∙ c.if-is_some.false)) c.take_target-block.ensures.used)
     (taken_formed s is block has free c.take_target-block.new.blocks r)
 
 pub aim-requires-clause-in_use : goal.aim-requires-clause-in_use
@@ -62,7 +62,7 @@ aim-requires-in-Done-clause-formed g c =
     let has = c.take_target-block.ensures.has in
     let free = c.take_target-block.ensures.was_free in
     let r = taken_soiled s c.take_target-block.new.blocks c.wear_out.new.blocks block free (sym c.is_soiled.ensures ∙ c.if-not-is_soiled.false) c.take_target-block.ensures.taken c.wear_out.ensures.worn in
-    subst (λ (k : Kept). IsFormed (record k { blocks = c.wear_out.new.blocks })) (targeted_counted c.args.self.now c.requires.formed c.requires.tied c.wear_out.new.blocks (restated_again c.take_target-block.ensures.taken c.wear_out.ensures.worn).numbers (full_is c.args.self.now c.next_copy.result c.next_copy.ensures.none (sym c.is_some.ensures ∙ c.if-is_some.false))
+    subst (λ (k : Kept). IsPhysicalFormed (record k { blocks = c.wear_out.new.blocks })) (targeted_counted c.args.self.now c.requires.formed c.requires.tied c.wear_out.new.blocks (restated_again c.take_target-block.ensures.taken c.wear_out.ensures.worn).numbers (full_is c.args.self.now c.next_copy.result c.next_copy.ensures.none (sym c.is_some.ensures ∙ c.if-is_some.false))
     (λ b has_b. c.wear_out.ensures.fill.used b (has_same b c.take_target-block.ensures.taken.numbers has_b) ∙ c.take_target-block.ensures.used b has_b))
     (taken_formed s is block has free c.wear_out.new.blocks r)
 
@@ -119,7 +119,7 @@ returns-then-not-is_soiled-clause-medium g c t =
           (aimed_segment s is block has free c.take_target-block.new.blocks r (c.requires.segment t) (λ p ne. refl)
           (λ p at. (c.requires.segment t).blank p (inr (ap (is_kept (seen s)) at ∙ free_kept s.blocks block free, ap (is_soiled (seen s)) at ∙ clean)))));
       keeps = keeps_nothing (seen s) image;
-      crash = crashes.start c.args.media.now (λ m i. Keeps (seen s) image i);
+      crash = crashes.start c.args.media.now (λ m i. PreservesSegment (seen s) image i);
       others = λ done p. inl refl;
     }
 
@@ -146,7 +146,7 @@ returns-in-Done-clause-medium g c t =
           (λ b has_b. c.wear_out.ensures.fill.used b (has_same b c.take_target-block.ensures.taken.numbers has_b) ∙ c.take_target-block.ensures.used b has_b))
           (aimed_segment s is block has free c.wear_out.new.blocks r (c.requires.segment t) (erase_others block pages s.blocks.size c.requires.fits.pages (filled_cut filled)) inside));
       keeps = keep _ (filled_cut filled);
-      crash = operation c.erase.result (λ i. Keeps (seen s) old i) c.erase.ensures.crash (c.erase.ensures.effect t) keep;
+      crash = operation c.erase.result (λ i. PreservesSegment (seen s) old i) c.erase.ensures.crash (c.erase.ensures.effect t) keep;
       others = λ done p. ⊎_elim
           (λ at. inr (at ∙ sym next, ap (is_free (seen s)) next ∙ free, ap (is_soiled (seen s)) next ∙ dirty, inside p at))
           (λ ne. inl (erase_others block pages s.blocks.size c.requires.fits.pages (filled_cut filled) p ne))
@@ -163,10 +163,10 @@ returns-in-Failed-clause-formed g c =
     let r = c.take_target-block.ensures.taken in
     let mid = c.take_target-block.new.blocks in
     let has_mid = has_same block r.numbers has in
-    let again : Restated block true (use_in s.blocks block).wear mid c.give_back.new.blocks = subst (λ n. Restated block true n mid c.give_back.new.blocks) (ap (λ (u : Use). u.wear) r.here) c.give_back.ensures in
+    let again : SetsUse block true (use_in s.blocks block).wear mid c.give_back.new.blocks = subst (λ n. SetsUse block true n mid c.give_back.new.blocks) (ap (λ (u : Use). u.wear) r.here) c.give_back.ensures in
     let both = restated_again r again in
     let same = restated_same (free_use s block is free) both in
-    subst (λ (k : Kept). IsFormed (record k { blocks = c.give_back.new.blocks })) (again_counted c.args.self.now is c.requires.tied block _ has free c.give_back.new.blocks both)
+    subst (λ (k : Kept). IsPhysicalFormed (record k { blocks = c.give_back.new.blocks })) (again_counted c.args.self.now is c.requires.tied block _ has free c.give_back.new.blocks both)
     (formed_same s c.give_back.new.blocks is same both.marks (λ room. both.states s.active is.active_in (free_other s.blocks block s.active Active has free refl (is.taken room)) ∙ is.taken room))
 
 pub returns-in-Failed-clause-tied : goal.returns-in-Failed-clause-tied
@@ -179,7 +179,7 @@ returns-in-Failed-clause-tied g c =
     let r = c.take_target-block.ensures.taken in
     let mid = c.take_target-block.new.blocks in
     let has_mid = has_same block r.numbers has in
-    let again : Restated block true (use_in s.blocks block).wear mid c.give_back.new.blocks = subst (λ n. Restated block true n mid c.give_back.new.blocks) (ap (λ (u : Use). u.wear) r.here) c.give_back.ensures in
+    let again : SetsUse block true (use_in s.blocks block).wear mid c.give_back.new.blocks = subst (λ n. SetsUse block true n mid c.give_back.new.blocks) (ap (λ (u : Use). u.wear) r.here) c.give_back.ensures in
     let both = restated_again r again in
     let same = restated_same (free_use s block is free) both in
     subst (λ (k : Kept). IsTied (record k { blocks = c.give_back.new.blocks })) (again_counted c.args.self.now is c.requires.tied block _ has free c.give_back.new.blocks both)
@@ -195,7 +195,7 @@ returns-in-Failed-clause-readied g c =
     let r = c.take_target-block.ensures.taken in
     let mid = c.take_target-block.new.blocks in
     let has_mid = has_same block r.numbers has in
-    let again : Restated block true (use_in s.blocks block).wear mid c.give_back.new.blocks = subst (λ n. Restated block true n mid c.give_back.new.blocks) (ap (λ (u : Use). u.wear) r.here) c.give_back.ensures in
+    let again : SetsUse block true (use_in s.blocks block).wear mid c.give_back.new.blocks = subst (λ n. SetsUse block true n mid c.give_back.new.blocks) (ap (λ (u : Use). u.wear) r.here) c.give_back.ensures in
     let both = restated_again r again in
     let same = restated_same (free_use s block is free) both in
     subst (λ (k : Kept). IsReadied (seen s) (seen (record k { blocks = c.give_back.new.blocks }))) (again_counted c.args.self.now is c.requires.tied block _ has free c.give_back.new.blocks both)
@@ -212,7 +212,7 @@ returns-in-Failed-clause-medium g c t =
     let full : s.blocks.size ≤ s.filled = (full_is c.args.self.now c.next_copy.result c.next_copy.ensures.none (sym c.is_some.ensures ∙ c.if-is_some.false)) in
     let mid = c.take_target-block.new.blocks in
     let has_mid = has_same block r.numbers has in
-    let again : Restated block true (use_in s.blocks block).wear mid c.give_back.new.blocks = subst (λ n. Restated block true n mid c.give_back.new.blocks) (ap (λ (u : Use). u.wear) r.here) c.give_back.ensures in
+    let again : SetsUse block true (use_in s.blocks block).wear mid c.give_back.new.blocks = subst (λ n. SetsUse block true n mid c.give_back.new.blocks) (ap (λ (u : Use). u.wear) r.here) c.give_back.ensures in
     let both = restated_again r again in
     let same = restated_same (free_use s block is free) both in
     let pages = (g.M.Nand.geometry c.args.media.now).pages in
@@ -224,7 +224,7 @@ returns-in-Failed-clause-medium g c t =
       segment = subst (λ (k : Kept). IsPhysicalOf (g.M.Nand.contents c.erase.new.self) (seen (record k { blocks = c.give_back.new.blocks }))) (again_counted c.args.self.now is c.requires.tied block _ has free c.give_back.new.blocks both)
           (again_segment s is block has free c.give_back.new.blocks same full dirty (c.requires.segment t) (erase_others block pages s.blocks.size c.requires.fits.pages cut));
       keeps = keep _ cut;
-      crash = operation c.erase.result (λ i. Keeps (seen s) old i) c.erase.ensures.crash (c.erase.ensures.effect t) keep;
+      crash = operation c.erase.result (λ i. PreservesSegment (seen s) old i) c.erase.ensures.crash (c.erase.ensures.effect t) keep;
       others = λ done. absurd (wrote_failed_done done);
     }
 
@@ -315,7 +315,7 @@ pub returns-then-is_some-clause-tied : goal.returns-then-is_some-clause-tied
 returns-then-is_some-clause-tied g c = c.requires.tied
 
 pub returns-then-is_some-clause-medium : goal.returns-then-is_some-clause-medium
-returns-then-is_some-clause-medium g c t = record { segment = c.requires.segment t; keeps = keeps_nothing (seen (kept c.args.self.now)) (g.M.Nand.contents c.args.media.now); crash = crashes.start c.args.media.now (λ m i. Keeps (seen (kept c.args.self.now)) (g.M.Nand.contents c.args.media.now) i); others = λ done p. inl refl }
+returns-then-is_some-clause-medium g c t = record { segment = c.requires.segment t; keeps = keeps_nothing (seen (kept c.args.self.now)) (g.M.Nand.contents c.args.media.now); crash = crashes.start c.args.media.now (λ m i. PreservesSegment (seen (kept c.args.self.now)) (g.M.Nand.contents c.args.media.now) i); others = λ done p. inl refl }
 
 pub returns-then-is_some-clause-geometry : goal.returns-then-is_some-clause-geometry
 returns-then-is_some-clause-geometry g c = refl

@@ -12,7 +12,7 @@ use Rattle.nl_pseg.proofs.States.{next_block}
 use Rattle.nl_pseg_blocks.proofs.Tables.{IsShut, shut_told}
 use Rattle.nl_pseg.specs.Kept.{Kept, kept}
 use Rattle.nl_pseg.proofs.Served.{idle_copy, idle_next, served_tied, told_free, told_kept, told_set, told_waits}
-use Rattle.nl_pseg.specs.Steps.{IsIdle}
+use Rattle.nl_pseg.specs.Steps.{ClosesBlock}
 use Rattle.nl_pseg.proofs.Waits.{wait_by}
 use Rattle.nl_pseg.proofs.state.State.soil.Goals as goal
 
@@ -38,7 +38,7 @@ returns-clause-tied c =
     let t = c.tell.ensures.told in
     let x : Kept = record m { blocks = c.tell.new.blocks; soiled = with_item m.soiled c.args.block (Some c.args.wear) } in
     let n : SameNumbers s.blocks x.blocks = t.numbers in
-    let i : IsIdle c.args.block s x = record { active = refl; target = refl; used = e.shut.used; filled = e.shut.filled } in
+    let i : ClosesBlock c.args.block s x = record { active = refl; target = refl; used = e.shut.used; filled = e.shut.filled } in
     let state : (block_at x.blocks c.args.block).state ≡ told_state (block_at s.blocks c.args.block).state = c.tell.ensures.state in
     served_tied s x c.requires.tied c.args.block i n c.requires.none refl (told_set (block_at s.blocks c.args.block).state _ state)
     (λ b has_b ne. t.states b has_b ne)
@@ -57,7 +57,7 @@ returns-clause-soils c =
     let t = c.tell.ensures.told in
     let n = t.numbers in
     let x : Kept = record m { blocks = c.tell.new.blocks; soiled = with_item m.soiled c.args.block (Some c.args.wear) } in
-    let i : IsIdle c.args.block s x = record { active = refl; target = refl; used = e.shut.used; filled = e.shut.filled } in
+    let i : ClosesBlock c.args.block s x = record { active = refl; target = refl; used = e.shut.used; filled = e.shut.filled } in
     let within : c.args.block < length m.soiled.items = subst (λ k. c.args.block < k) (sym e.formed.marks) c.requires.within.below in
     let apart : IsApart c.args.block (seen m) (seen x) = record {
       range = record { range_first = n.same_first; range_blocks = λ k. n.same_first k + n.same_count k; range_size = n.same_size };

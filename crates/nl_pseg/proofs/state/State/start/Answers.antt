@@ -13,11 +13,11 @@ use Rattle.nl_nand.specs.ImageLaws.{filled_cut}
 use Rattle.nl_nand.specs.Nand.{Cut}
 use Rattle.nl_nand.proofs.Crashes.{operation}
 use Rattle.nl_nand.proofs.Crashes as crashes
-use Rattle.nl_pseg.specs.Effects.{Keeps}
+use Rattle.nl_pseg.specs.Effects.{PreservesSegment}
 use Rattle.nl_pseg.specs.Segment.{is_free, is_kept, is_soiled, IsPhysicalOf}
-use Rattle.nl_pseg.specs.Seen.{seen, IsFormed, IsTied}
-use Rattle.nl_pseg.specs.Steps.{IsOpened, Opening, opened_at}
-use Rattle.nl_pseg_blocks.specs.Uses.{Use, use_in, Restated}
+use Rattle.nl_pseg.specs.Seen.{seen, IsPhysicalFormed, IsTied}
+use Rattle.nl_pseg.specs.Steps.{OpensFreeBlock, OpensForProgram, opened_at}
+use Rattle.nl_pseg_blocks.specs.Uses.{Use, use_in, SetsUse}
 use Rattle.nl_pseg.proofs.Forms.{formed_restated, formed_same, same_pages, same_unspent}
 use Rattle.nl_pseg.proofs.Images.{erase_keeps, erase_others, failed_segment, keeps_nothing, opened_segment}
 use Rattle.nl_pseg.proofs.Numbers.{in_block}
@@ -42,7 +42,7 @@ write_to-requires-clause-formed g c =
     let is = c.requires.formed in
     let t = c.take-block.new.blocks in
     let r = c.take-block.ensures.taken in
-    subst (λ (k : Kept). IsFormed (record k { blocks = t })) (taken_counted c.args.self.now is c.requires.tied t r.numbers (full_is c.args.self.now c.next_page.result c.next_page.ensures.none (sym c.is_some.ensures ∙ c.if-is_some.false)) c.take-block.ensures.filled)
+    subst (λ (k : Kept). IsPhysicalFormed (record k { blocks = t })) (taken_counted c.args.self.now is c.requires.tied t r.numbers (full_is c.args.self.now c.next_page.result c.next_page.ensures.none (sym c.is_some.ensures ∙ c.if-is_some.false)) c.take-block.ensures.filled)
     (taken_formed s is c.take-block.result c.take-block.ensures.has c.take-block.ensures.was_free t r)
 
 pub write_to-requires-in-Done-clause-formed : goal.write_to-requires-in-Done-clause-formed
@@ -51,7 +51,7 @@ write_to-requires-in-Done-clause-formed g c =
     let is = c.requires.formed in
     let t = c.wear_out.new.blocks in
     let r = restated_again c.take-block.ensures.taken c.wear_out.ensures.worn in
-    subst (λ (k : Kept). IsFormed (record k { blocks = t })) (taken_counted c.args.self.now is c.requires.tied t r.numbers (full_is c.args.self.now c.next_page.result c.next_page.ensures.none (sym c.is_some.ensures ∙ c.if-is_some.false)) (λ b has. c.wear_out.ensures.fill.filled b (has_same b c.take-block.ensures.taken.numbers has) ∙ c.take-block.ensures.filled b has))
+    subst (λ (k : Kept). IsPhysicalFormed (record k { blocks = t })) (taken_counted c.args.self.now is c.requires.tied t r.numbers (full_is c.args.self.now c.next_page.result c.next_page.ensures.none (sym c.is_some.ensures ∙ c.if-is_some.false)) (λ b has. c.wear_out.ensures.fill.filled b (has_same b c.take-block.ensures.taken.numbers has) ∙ c.take-block.ensures.filled b has))
     (taken_formed s is c.take-block.result c.take-block.ensures.has c.take-block.ensures.was_free t r)
 
 pub write_to-requires-in-Done-clause-unused : goal.write_to-requires-in-Done-clause-unused
@@ -108,8 +108,8 @@ returns-then-not-is_soiled-clause-opening g c =
     let formed = formed_restated s c.take-block.new.blocks c.take-block.result _ false c.requires.formed r (λ room. absurd (not_full full room)) (λ yes. absurd (true≢false (sym yes))) in
     inr (
       c.take-block.result,
-      subst (IsOpened c.take-block.result (seen s)) (sym c.write_to.ensures.opened)
-          (subst (λ (k : Kept). IsOpened c.take-block.result (seen s) (opened_at (seen (record k { blocks = c.take-block.new.blocks })) c.take-block.result))
+      subst (OpensFreeBlock c.take-block.result (seen s)) (sym c.write_to.ensures.opened)
+          (subst (λ (k : Kept). OpensFreeBlock c.take-block.result (seen s) (opened_at (seen (record k { blocks = c.take-block.new.blocks })) c.take-block.result))
           (taken_counted c.args.self.now c.requires.formed c.requires.tied c.take-block.new.blocks r.numbers full c.take-block.ensures.filled)
           (opened s c.take-block.new.blocks c.take-block.result c.requires.formed full (two_free _ s.used _ full c.requires.room) r c.take-block.ensures.was_free formed)),
     )
@@ -122,8 +122,8 @@ returns-then-not-is_soiled-clause-medium g c t =
     let full : s.blocks.size ≤ s.used = (full_is c.args.self.now c.next_page.result c.next_page.ensures.none (sym c.is_some.ensures ∙ c.if-is_some.false)) in
     let r = taken_clean s c.take-block.new.blocks block (sym c.is_soiled.ensures ∙ c.if-not-is_soiled.true) c.take-block.ensures.taken in
     let formed = formed_restated s c.take-block.new.blocks block _ false is r (λ room. absurd (not_full full room)) (λ yes. absurd (true≢false (sym yes))) in
-    let o : IsOpened block (seen s) (seen (kept c.write_to.new.self)) = subst (IsOpened block (seen s)) (sym c.write_to.ensures.opened)
-    (subst (λ (k : Kept). IsOpened block (seen s) (opened_at (seen (record k { blocks = c.take-block.new.blocks })) block))
+    let o : OpensFreeBlock block (seen s) (seen (kept c.write_to.new.self)) = subst (OpensFreeBlock block (seen s)) (sym c.write_to.ensures.opened)
+    (subst (λ (k : Kept). OpensFreeBlock block (seen s) (opened_at (seen (record k { blocks = c.take-block.new.blocks })) block))
     (taken_counted c.args.self.now is c.requires.tied c.take-block.new.blocks r.numbers full c.take-block.ensures.filled)
     (opened s c.take-block.new.blocks block is full (two_free _ s.used _ full c.requires.room) r c.take-block.ensures.was_free formed)) in
     let image = g.M.Nand.contents c.args.media.now in
@@ -132,7 +132,7 @@ returns-then-not-is_soiled-clause-medium g c t =
       segment = opened_segment o is.some is.places (free_copy s is c.requires.tied block c.take-block.ensures.has c.take-block.ensures.was_free) (c.requires.segment t) (λ p ne. refl)
           (λ p at. (c.requires.segment t).blank p (inr (ap (is_kept (seen s)) at ∙ free_kept s.blocks block c.take-block.ensures.was_free, ap (is_soiled (seen s)) at ∙ clean)));
       keeps = keeps_nothing (seen s) image;
-      crash = crashes.start c.args.media.now (λ m i. Keeps (seen s) image i);
+      crash = crashes.start c.args.media.now (λ m i. PreservesSegment (seen s) image i);
       others = λ done p. inl refl;
     }
 
@@ -144,8 +144,8 @@ returns-in-Done-clause-opening g c =
     let formed = formed_restated s c.wear_out.new.blocks c.take-block.result _ false c.requires.formed r (λ room. absurd (not_full full room)) (λ yes. absurd (true≢false (sym yes))) in
     inr (
       c.take-block.result,
-      subst (IsOpened c.take-block.result (seen s)) (sym c.write_to-in-Done.ensures.opened)
-          (subst (λ (k : Kept). IsOpened c.take-block.result (seen s) (opened_at (seen (record k { blocks = c.wear_out.new.blocks })) c.take-block.result))
+      subst (OpensFreeBlock c.take-block.result (seen s)) (sym c.write_to-in-Done.ensures.opened)
+          (subst (λ (k : Kept). OpensFreeBlock c.take-block.result (seen s) (opened_at (seen (record k { blocks = c.wear_out.new.blocks })) c.take-block.result))
           (taken_counted c.args.self.now c.requires.formed c.requires.tied c.wear_out.new.blocks r.numbers full (λ b has. c.wear_out.ensures.fill.filled b (has_same b c.take-block.ensures.taken.numbers has) ∙ c.take-block.ensures.filled b has))
           (opened s c.wear_out.new.blocks c.take-block.result c.requires.formed full (two_free _ s.used _ full c.requires.room) r c.take-block.ensures.was_free formed)),
     )
@@ -158,8 +158,8 @@ returns-in-Done-clause-medium g c t =
     let full : s.blocks.size ≤ s.used = (full_is c.args.self.now c.next_page.result c.next_page.ensures.none (sym c.is_some.ensures ∙ c.if-is_some.false)) in
     let r = taken_soiled s c.take-block.new.blocks c.wear_out.new.blocks block c.take-block.ensures.was_free (sym c.is_soiled.ensures ∙ c.if-not-is_soiled.false) c.take-block.ensures.taken c.wear_out.ensures.worn in
     let formed = formed_restated s c.wear_out.new.blocks block _ false is r (λ room. absurd (not_full full room)) (λ yes. absurd (true≢false (sym yes))) in
-    let o : IsOpened block (seen s) (seen (kept c.write_to-in-Done.new.self)) = subst (IsOpened block (seen s)) (sym c.write_to-in-Done.ensures.opened)
-    (subst (λ (k : Kept). IsOpened block (seen s) (opened_at (seen (record k { blocks = c.wear_out.new.blocks })) block))
+    let o : OpensFreeBlock block (seen s) (seen (kept c.write_to-in-Done.new.self)) = subst (OpensFreeBlock block (seen s)) (sym c.write_to-in-Done.ensures.opened)
+    (subst (λ (k : Kept). OpensFreeBlock block (seen s) (opened_at (seen (record k { blocks = c.wear_out.new.blocks })) block))
     (taken_counted c.args.self.now is c.requires.tied c.wear_out.new.blocks r.numbers full (λ b has. c.wear_out.ensures.fill.filled b (has_same b c.take-block.ensures.taken.numbers has) ∙ c.take-block.ensures.filled b has))
     (opened s c.wear_out.new.blocks block is full (two_free _ s.used _ full c.requires.room) r c.take-block.ensures.was_free formed)) in
     let pages = (g.M.Nand.geometry c.args.media.now).pages in
@@ -173,7 +173,7 @@ returns-in-Done-clause-medium g c t =
     record {
       segment = opened_segment o is.some is.places (free_copy s is c.requires.tied block c.take-block.ensures.has c.take-block.ensures.was_free) (c.requires.segment t) (erase_others block pages s.blocks.size c.requires.fits.pages (filled_cut filled)) inside;
       keeps = keep _ (filled_cut filled);
-      crash = operation c.erase.result (λ i. Keeps (seen s) (g.M.Nand.contents c.args.media.now) i) c.erase.ensures.crash (c.erase.ensures.effect t) keep;
+      crash = operation c.erase.result (λ i. PreservesSegment (seen s) (g.M.Nand.contents c.args.media.now) i) c.erase.ensures.crash (c.erase.ensures.effect t) keep;
       others = λ done p. ⊎_elim
           (λ at. inr (at ∙ sym next, ap (is_free (seen s)) next ∙ c.take-block.ensures.was_free, ap (is_soiled (seen s)) next ∙ dirty, inside p at))
           (λ ne. inl (erase_others block pages s.blocks.size c.requires.fits.pages (filled_cut filled) p ne))
@@ -208,11 +208,11 @@ returns-in-Failed-clause-formed g c =
     let mid = c.take-block.new.blocks in
     let t = c.give_back.new.blocks in
     let r = c.take-block.ensures.taken in
-    let back : Restated block true (use_in s.blocks block).wear mid t = subst (λ n. Restated block true n mid t) (ap (λ (u : Use). u.wear) r.here) c.give_back.ensures in
+    let back : SetsUse block true (use_in s.blocks block).wear mid t = subst (λ n. SetsUse block true n mid t) (ap (λ (u : Use). u.wear) r.here) c.give_back.ensures in
     let whole = restated_again r back in
     let same = restated_same (free_use s block is c.take-block.ensures.was_free) whole in
     let counted = again_counted c.args.self.now is c.requires.tied block _ c.take-block.ensures.has c.take-block.ensures.was_free t whole in
-    subst (λ (k : Kept). IsFormed (record k { blocks = t })) counted (formed_same s t is same whole.marks (λ room. absurd (not_full (full_is c.args.self.now c.next_page.result c.next_page.ensures.none (sym c.is_some.ensures ∙ c.if-is_some.false)) room)))
+    subst (λ (k : Kept). IsPhysicalFormed (record k { blocks = t })) counted (formed_same s t is same whole.marks (λ room. absurd (not_full (full_is c.args.self.now c.next_page.result c.next_page.ensures.none (sym c.is_some.ensures ∙ c.if-is_some.false)) room)))
 
 pub returns-in-Failed-clause-tied : goal.returns-in-Failed-clause-tied
 returns-in-Failed-clause-tied g c =
@@ -222,7 +222,7 @@ returns-in-Failed-clause-tied g c =
     let mid = c.take-block.new.blocks in
     let t = c.give_back.new.blocks in
     let r = c.take-block.ensures.taken in
-    let back : Restated block true (use_in s.blocks block).wear mid t = subst (λ n. Restated block true n mid t) (ap (λ (u : Use). u.wear) r.here) c.give_back.ensures in
+    let back : SetsUse block true (use_in s.blocks block).wear mid t = subst (λ n. SetsUse block true n mid t) (ap (λ (u : Use). u.wear) r.here) c.give_back.ensures in
     let whole = restated_again r back in
     let same = restated_same (free_use s block is c.take-block.ensures.was_free) whole in
     let counted = again_counted c.args.self.now is c.requires.tied block _ c.take-block.ensures.has c.take-block.ensures.was_free t whole in
@@ -236,12 +236,12 @@ returns-in-Failed-clause-opening g c =
     let mid = c.take-block.new.blocks in
     let t = c.give_back.new.blocks in
     let r = c.take-block.ensures.taken in
-    let back : Restated block true (use_in s.blocks block).wear mid t = subst (λ n. Restated block true n mid t) (ap (λ (u : Use). u.wear) r.here) c.give_back.ensures in
+    let back : SetsUse block true (use_in s.blocks block).wear mid t = subst (λ n. SetsUse block true n mid t) (ap (λ (u : Use). u.wear) r.here) c.give_back.ensures in
     let whole = restated_again r back in
     let same = restated_same (free_use s block is c.take-block.ensures.was_free) whole in
     let counted = again_counted c.args.self.now is c.requires.tied block _ c.take-block.ensures.has c.take-block.ensures.was_free t whole in
     let dirty : is_soiled (seen s) block ≡ true = sym c.is_soiled.ensures ∙ c.if-not-is_soiled.false in
-    subst (λ (k : Kept). Opening wrote.Failed (seen s) (seen (record k { blocks = t }))) counted (
+    subst (λ (k : Kept). OpensForProgram wrote.Failed (seen s) (seen (record k { blocks = t }))) counted (
       same_pages s t same,
       refl,
       same_unspent s t same,
@@ -260,7 +260,7 @@ returns-in-Failed-clause-medium g c tells =
     let mid = c.take-block.new.blocks in
     let t = c.give_back.new.blocks in
     let r = c.take-block.ensures.taken in
-    let back : Restated block true (use_in s.blocks block).wear mid t = subst (λ n. Restated block true n mid t) (ap (λ (u : Use). u.wear) r.here) c.give_back.ensures in
+    let back : SetsUse block true (use_in s.blocks block).wear mid t = subst (λ n. SetsUse block true n mid t) (ap (λ (u : Use). u.wear) r.here) c.give_back.ensures in
     let whole = restated_again r back in
     let same = restated_same (free_use s block is c.take-block.ensures.was_free) whole in
     let counted = again_counted c.args.self.now is c.requires.tied block _ c.take-block.ensures.has c.take-block.ensures.was_free t whole in
@@ -273,7 +273,7 @@ returns-in-Failed-clause-medium g c tells =
           (failed_segment block (same_pages s t same) refl (same_unspent s t same) is.places (free_copy s is c.requires.tied block c.take-block.ensures.has c.take-block.ensures.was_free) (c.requires.segment tells) (free_kept s.blocks block c.take-block.ensures.was_free) dirty
           (let full = (full_is c.args.self.now c.next_page.result c.next_page.ensures.none (sym c.is_some.ensures ∙ c.if-is_some.false)) in omega (arith, full)) (erase_others block pages s.blocks.size c.requires.fits.pages cut));
       keeps = keep _ cut;
-      crash = operation c.erase.result (λ i. Keeps (seen s) (g.M.Nand.contents c.args.media.now) i) c.erase.ensures.crash (c.erase.ensures.effect tells) keep;
+      crash = operation c.erase.result (λ i. PreservesSegment (seen s) (g.M.Nand.contents c.args.media.now) i) c.erase.ensures.crash (c.erase.ensures.effect tells) keep;
       others = λ done. absurd (wrote_failed_done done);
     }
 
@@ -314,7 +314,7 @@ pub returns-then-is_some-clause-tied : goal.returns-then-is_some-clause-tied
 returns-then-is_some-clause-tied g c = c.requires.tied
 
 pub returns-then-is_some-clause-medium : goal.returns-then-is_some-clause-medium
-returns-then-is_some-clause-medium g c t = record { segment = c.requires.segment t; keeps = keeps_nothing (seen (kept c.args.self.now)) (g.M.Nand.contents c.args.media.now); crash = crashes.start c.args.media.now (λ m i. Keeps (seen (kept c.args.self.now)) (g.M.Nand.contents c.args.media.now) i); others = λ done p. inl refl }
+returns-then-is_some-clause-medium g c t = record { segment = c.requires.segment t; keeps = keeps_nothing (seen (kept c.args.self.now)) (g.M.Nand.contents c.args.media.now); crash = crashes.start c.args.media.now (λ m i. PreservesSegment (seen (kept c.args.self.now)) (g.M.Nand.contents c.args.media.now) i); others = λ done p. inl refl }
 
 pub returns-then-is_some-clause-geometry : goal.returns-then-is_some-clause-geometry
 returns-then-is_some-clause-geometry g c = refl

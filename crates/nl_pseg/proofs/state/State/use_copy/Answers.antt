@@ -7,10 +7,10 @@ use Rattle.nl_blocks.specs.declared.states.BlockState.TheVariants.{Sealed, Targe
 use Rattle.std.proofs.Common.{◌≡◌, ⊎_elim, ℕ, ◌+◌, ◌/◌, ◌<◌, length, refl, sym, ◌∙◌, ap, subst, arith, cond, is_some, Option, Some, None}
 use Rattle.std.proofs.lemmas.Bool.{cases_lt}
 use Rattle.nl_blocks.specs.declared.states.PageState.TheVariants.{Dead, Live}
-use Rattle.nl_pseg.specs.Seen.{state_for, IsFormed, IsTied, seen}
+use Rattle.nl_pseg.specs.Seen.{state_for, IsPhysicalFormed, IsTied, seen}
 use Rattle.nl_blocks.specs.Table.{Table, HasBlock, HasPage, block_at}
 use Rattle.nl_pseg.specs.Steps.{IsCopyUsed}
-use Rattle.nl_pseg_blocks.specs.Uses.{IsMarked, SameNumbers, SameFill, SameUse, Uses}
+use Rattle.nl_pseg_blocks.specs.Uses.{MarksPage, SameNumbers, SameFill, SameUse, CountsUsedPage}
 use Rattle.nl_pseg.specs.declared.held.Held.{Held}
 use Rattle.nl_pseg.proofs.CopyUsed.{copied, copied_formed, copied_tied, copy_within, copy_block}
 use Rattle.nl_pseg.proofs.Forms.{marked_are}
@@ -39,8 +39,8 @@ pub mark-requires-clause-filled : goal.mark-requires-clause-filled
 mark-requires-clause-filled c = copy_up c.args.self.now c.requires.formed c.requires.tied c.args.page c.requires.room c.requires.next
 
 -- what using the next page for a copy does, by the tables after the mark and after the seal
-module _ (s : State) (is : IsFormed (kept s)) (tied : IsTied (kept s)) (room : (kept s).filled < s.blocks.size) (page : ℕ) (next : page ≡ (seen (kept s)).copy_next) (x : Option Held) (mid t : Table)
-    (uses : Uses is_active_state page s.blocks mid) (fills : Uses is_target_state page s.blocks mid) (same_mid : SameUse s.blocks mid) (same_t : SameUse mid t) (fill : SameFill mid t)
+module _ (s : State) (is : IsPhysicalFormed (kept s)) (tied : IsTied (kept s)) (room : (kept s).filled < s.blocks.size) (page : ℕ) (next : page ≡ (seen (kept s)).copy_next) (x : Option Held) (mid t : Table)
+    (uses : CountsUsedPage is_active_state page s.blocks mid) (fills : CountsUsedPage is_target_state page s.blocks mid) (same_mid : SameUse s.blocks mid) (same_t : SameUse mid t) (fill : SameFill mid t)
     (left : used_in is_target_state mid s.target < mid.size → (block_at t s.target).state ≡ Target) (full : used_in is_target_state mid s.target ≡ mid.size → (block_at t s.target).state ≡ Sealed) where
   abbrev new : Kept
   new = record (kept s) { held = with_item s.held page x; blocks = t; filled = (kept s).filled + 1 }
@@ -73,8 +73,8 @@ returns-clause-formed c =
     let same = same_then m.same f.same in
     let others = λ (b : ℕ) (has : HasBlock s.blocks b) (ne : b ≡ s.target → ⊥). f.others b (has_same b m.same.numbers has) ne ∙ m.states b in
     let within : c.args.page < length s.held.items = subst (λ k. k < length s.held.items) (sym c.requires.next) (copy_within (kept s) is tied room) in
-    let made = marked_are (kept s) is mid m.same c.args.page c.args.held (subst (λ y. IsMarked c.args.page y s.blocks mid) (ap (λ b. cond b Live Dead) c.is_some.ensures ∙ state_is c.args.held) m.marked) within in
-    subst IsFormed (counted s is tied room c.args.page c.requires.next c.args.held mid t m.uses m.fills m.same f.same f.fill f.more f.sealed)
+    let made = marked_are (kept s) is mid m.same c.args.page c.args.held (subst (λ y. MarksPage c.args.page y s.blocks mid) (ap (λ b. cond b Live Dead) c.is_some.ensures ∙ state_is c.args.held) m.marked) within in
+    subst IsPhysicalFormed (counted s is tied room c.args.page c.requires.next c.args.held mid t m.uses m.fills m.same f.same f.fill f.more f.sealed)
     (copied_formed (kept s) is tied room t same c.args.page c.requires.next c.args.held
     (more s is tied room c.args.page c.requires.next c.args.held mid t m.uses m.fills m.same f.same f.fill f.more f.sealed)
     (done s is tied room c.args.page c.requires.next c.args.held mid t m.uses m.fills m.same f.same f.fill f.more f.sealed)

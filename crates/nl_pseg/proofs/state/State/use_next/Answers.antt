@@ -6,9 +6,9 @@ use Rattle.nl_blocks.specs.declared.states.BlockState.TheVariants.{Active}
 use Rattle.std.proofs.Common.{◌≡◌, inl, inr, ⊎_elim, ◌+◌, ◌-◌, ◌*◌, ◌<◌, ◌^◌, length, set, refl, sym, ◌∙◌, ap, subst, arith, length-set, cond, is_some, Option, Some, None, IfSome, IsTrue, ℕ, ◌/◌}
 use Rattle.std.specs.Vec.{with_item}
 use Rattle.nl_pseg.specs.Segment.{soiled, wear_with}
-use Rattle.nl_pseg.specs.Seen.{seen, state_for, AreMarked, IsTied, IsFormed}
-use Rattle.nl_pseg.specs.Steps.{IsUsed}
-use Rattle.nl_pseg_blocks.specs.Uses.{Use, IsMarked, SameFill, SameUse, Uses}
+use Rattle.nl_pseg.specs.Seen.{seen, state_for, AreMarked, IsTied, IsPhysicalFormed}
+use Rattle.nl_pseg.specs.Steps.{UsesNextPage}
+use Rattle.nl_pseg_blocks.specs.Uses.{Use, MarksPage, SameFill, SameUse, CountsUsedPage}
 use Rattle.nl_blocks.specs.declared.states.PageState.TheVariants.{Dead, Live}
 use Rattle.nl_pseg.specs.declared.held.Held.{Held}
 use Rattle.nl_pseg.proofs.Closed.{as_counted}
@@ -36,8 +36,8 @@ pub mark-requires-clause-filled : goal.mark-requires-clause-filled
 mark-requires-clause-filled c = let less = next_filled c.args.self.now c.requires.formed c.requires.tied c.args.page c.requires.room c.requires.next in omega (arith, less)
 
 -- what using the next page does, by the tables after the mark and after the seal
-module _ (s : State) (is : IsFormed (kept s)) (tied : IsTied (kept s)) (room : (kept s).used < s.blocks.size) (page : ℕ) (next : page ≡ (seen (kept s)).next) (x : Option Held) (mid t : Table)
-    (uses : Uses is_active_state page s.blocks mid) (fills : Uses is_target_state page s.blocks mid) (same_mid : SameUse s.blocks mid) (same_t : SameUse mid t) (fill : SameFill mid t) where
+module _ (s : State) (is : IsPhysicalFormed (kept s)) (tied : IsTied (kept s)) (room : (kept s).used < s.blocks.size) (page : ℕ) (next : page ≡ (seen (kept s)).next) (x : Option Held) (mid t : Table)
+    (uses : CountsUsedPage is_active_state page s.blocks mid) (fills : CountsUsedPage is_target_state page s.blocks mid) (same_mid : SameUse s.blocks mid) (same_t : SameUse mid t) (fill : SameFill mid t) where
   abbrev new : Kept
   new = record (kept s) { held = with_item s.held page x; blocks = t; used = (kept s).used + 1 }
 
@@ -56,7 +56,7 @@ module _ (s : State) (is : IsFormed (kept s)) (tied : IsTied (kept s)) (room : (
   within : page < length s.held.items
   within = subst (λ k. k < length s.held.items) (sym next) (within_length (kept s) is (s.active * s.blocks.size + (kept s).used) (next_segment (kept s) is room (s.active * s.blocks.size + (kept s).used) (is_next (kept s) is room)))
 
-  used : IsUsed x (seen (kept s)) (seen new)
+  used : UsesNextPage x (seen (kept s)) (seen new)
   used =
       let n = same.numbers in
       record {
@@ -75,7 +75,7 @@ module _ (s : State) (is : IsFormed (kept s)) (tied : IsTied (kept s)) (room : (
         names = record { same_pairs = refl; same_pair_room = refl; same_victim = refl; copies = (λ i. s.target * n.same_size i + (kept s).filled, λ i. n.same_size i - (kept s).filled) };
       }
 
-  formed : IfSome x (λ h. IsTrue (is_stamp h.stamp)) → AreMarked t (set s.held.items page x) → ((kept s).used + 1 < t.size → (block_at t s.active).state ≡ Active) → IsFormed new
+  formed : IfSome x (λ h. IsTrue (is_stamp h.stamp)) → AreMarked t (set s.held.items page x) → ((kept s).used + 1 < t.size → (block_at t s.active).state ≡ Active) → IsPhysicalFormed new
   formed spelled marked taken =
       let n = same.numbers in
       let bound : (t.first + length t.blocks) * t.size ≡ (s.blocks.first + length s.blocks.blocks) * s.blocks.size = (λ i. (n.same_first i + n.same_count i) * n.same_size i) in
@@ -103,7 +103,7 @@ returns-clause-formed c =
     let mid = c.mark.new.blocks in
     let t = c.seal_full.new.blocks in
     let n = c.requires.next in
-    let made = marked_are (kept s) is mid m.same c.args.page c.args.held (subst (λ y. IsMarked c.args.page y s.blocks mid) (ap (λ b. cond b Live Dead) c.is_some.ensures ∙ state_is c.args.held) m.marked)
+    let made = marked_are (kept s) is mid m.same c.args.page c.args.held (subst (λ y. MarksPage c.args.page y s.blocks mid) (ap (λ b. cond b Live Dead) c.is_some.ensures ∙ state_is c.args.held) m.marked)
     (within s is c.requires.tied c.requires.room c.args.page n c.args.held mid t m.uses m.fills m.same f.same f.fill) in
     let marked : AreMarked t (set s.held.items c.args.page c.args.held) = record {
       rising = f.marks.rises made.rising;
@@ -111,7 +111,7 @@ returns-clause-formed c =
     } in
     let mid_is = mid_used s is c.requires.tied c.requires.room c.args.page n c.args.held mid t m.uses m.fills m.same f.same f.fill in
     let size = f.same.numbers.same_size in
-    subst IsFormed (counted s is c.requires.tied c.requires.room c.args.page n c.args.held mid t m.uses m.fills m.same f.same f.fill)
+    subst IsPhysicalFormed (counted s is c.requires.tied c.requires.room c.args.page n c.args.held mid t m.uses m.fills m.same f.same f.fill)
     (formed s is c.requires.tied c.requires.room c.args.page n c.args.held mid t m.uses m.fills m.same f.same f.fill c.requires.spelled marked (λ lt. f.more (omega (arith, lt, mid_is, size))))
 
 pub returns-clause-used : goal.returns-clause-used
@@ -119,7 +119,7 @@ returns-clause-used c =
     let s = c.args.self.now in
     let m = c.mark.ensures in
     let f = c.seal_full.ensures in
-    subst (λ (k : Kept). IsUsed c.args.held (seen (kept s)) (seen k))
+    subst (λ (k : Kept). UsesNextPage c.args.held (seen (kept s)) (seen k))
     (counted s c.requires.formed c.requires.tied c.requires.room c.args.page c.requires.next c.args.held c.mark.new.blocks c.seal_full.new.blocks m.uses m.fills m.same f.same f.fill)
     (used s c.requires.formed c.requires.tied c.requires.room c.args.page c.requires.next c.args.held c.mark.new.blocks c.seal_full.new.blocks m.uses m.fills m.same f.same f.fill)
 

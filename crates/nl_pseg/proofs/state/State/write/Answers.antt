@@ -4,7 +4,7 @@ use Rattle.nl_pseg.proofs.Placings.{nothing_on, nothing_placed}
 use Rattle.nl_pseg.proofs.Counts.{none_left, nothing_counted}
 use Rattle.nl_pseg.specs.Seen.{seen}
 use Rattle.nl_pseg.specs.Kept.{kept}
-use Rattle.nl_pseg.specs.Answers.{IsTried}
+use Rattle.nl_pseg.specs.Answers.{ReachedMedium}
 use Rattle.nl_field.specs.declared.answers.Named.TheVariants.{NoPage}
 use Rattle.std.proofs.Common.{refl, subst}
 use Rattle.nl_pseg.proofs.state.State.write.Goals as goal
@@ -58,13 +58,13 @@ pub returns-clause-tied : goal.returns-clause-tied
 returns-clause-tied g c = c.place.ensures.tied
 
 pub returns-clause-live : goal.returns-clause-live
-returns-clause-live g c e = subst IsTried e c.place.ensures.tried
+returns-clause-live g c e = subst ReachedMedium e c.place.ensures.tried
 
 pub returns-clause-full : goal.returns-clause-full
-returns-clause-full g c = (λ e. absurd (subst IsTried e c.place.ensures.tried), λ none. absurd (some_none (c.has_room.ensures.0 c.if-not-has_room.false) none))
+returns-clause-full g c = (λ e. absurd (subst ReachedMedium e c.place.ensures.tried), λ none. absurd (some_none (c.has_room.ensures.0 c.if-not-has_room.false) none))
 
 pub returns-clause-refused : goal.returns-clause-refused
-returns-clause-refused g c e = absurd (subst IsTried e c.place.ensures.tried)
+returns-clause-refused g c e = absurd (subst ReachedMedium e c.place.ensures.tried)
 
 pub returns-clause-placing : goal.returns-clause-placing
 returns-clause-placing g c = c.place.ensures.placing

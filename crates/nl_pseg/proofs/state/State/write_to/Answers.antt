@@ -3,7 +3,7 @@ use Rattle.nl_pseg.specs.Steps.{opened_at}
 use Rattle.nl_blocks.specs.Used.{is_active_state, used_in}
 use Rattle.nl_pseg.proofs.Closed.{as_counted}
 use Rattle.nl_pseg.specs.Kept.{Kept, all_used, kept}
-use Rattle.nl_pseg.specs.Seen.{IsFormed, IsTied, seen}
+use Rattle.nl_pseg.specs.Seen.{IsPhysicalFormed, IsTied, seen}
 use Rattle.std.proofs.Common.{None, ◌∙◌, subst, arith, length-set, refl, ◌*◌, ◌+◌, ◌-◌, ◌≡◌}
 use Rattle.nl_pseg.proofs.Numbers.{block_of}
 use Rattle.nl_pseg.proofs.Taken.{taken_tied}
@@ -14,7 +14,7 @@ returns-clause-formed c =
     let s = all_used (kept c.args.self.now) in
     let is = c.requires.formed in
     let new : Kept = record s { soiled = with_item s.soiled c.args.block None; active = c.args.block; used = 0 } in
-    let formed : IsFormed new = record {
+    let formed : IsPhysicalFormed new = record {
       some = is.some;
       numbers = is.numbers;
       pages = is.pages;
@@ -34,7 +34,7 @@ returns-clause-formed c =
             };
       };
     } in
-    subst IsFormed (as_counted new _ _ c.requires.unused refl) formed
+    subst IsPhysicalFormed (as_counted new _ _ c.requires.unused refl) formed
 
 pub returns-clause-tied : goal.returns-clause-tied
 returns-clause-tied c =

@@ -4,8 +4,8 @@ use Rattle.std.proofs.lemmas.Bool.{cases_lt}
 use Rattle.nl_field.specs.CrashStates.{Rose}
 use Rattle.nl_tree.specs.Causes.{FaultRose}
 use Rattle.nl_device.proofs.Forms.{shape_is}
-use Rattle.nl_spec_image.specs.Crash.{StopsSafely}
-use Rattle.nl_spec_image.specs.Stands.{SoundAs}
+use Rattle.nl_spec_image.specs.Crash.{CrashesSafely}
+use Rattle.nl_spec_image.specs.Stands.{ConsistentAs}
 use Rattle.nl_turns.specs.History.{effects, opening_counts, tree_after}
 use Rattle.nl_volume.specs.Closing.{IsYoungAtEnd, counts_on}
 use Rattle.nl_core.specs.Core.{begun_of}
@@ -23,7 +23,7 @@ returns-clause-stops g c v o h s young =
     let e = c.commit_last-last.ensures in
     let is = c.into_media.ensures in
     let y = subst (λ m. IsYoungAtEnd g.M.Nand.tells o h (begun_of v.core) (g.M.Nand.clock m)) is young in
-    subst (λ media. StopsSafely SoundAs (λ m x. g.M.Nand.left v.core.device.media m x) (λ m x. g.M.Nand.left media m x) o.clock (g.M.Nand.clock media) (run_of o h)) (sym is)
+    subst (λ media. CrashesSafely ConsistentAs (λ m x. g.M.Nand.left v.core.device.media m x) (λ m x. g.M.Nand.left media m x) o.clock (g.M.Nand.clock media) (run_of o h)) (sym is)
     (sound_stops G (run_of o h) (λ m x. G.left v.core.device m x) (λ m x. G.left last.device m x) o.clock (G.clock last.device) (λ x. x) (λ x. refl)
     (λ m x left.
     let fit = g.met.M.Nand.left_fits last.device.media m x y.told left in
@@ -66,7 +66,7 @@ returns-clause-ends g c v o h s young k none =
     let p = e.commits done in
     let writes = still_writes G v.core o h u last c.args.self.done s.0 e.goes k.writes (λ r. none (subst (λ m. Rose (g.M.Nand.write_faults u.device.media) (g.M.Nand.write_faults m)) (sym is) r)) in
     let fit = g.met.M.Nand.contents_fit last.device.media y.told in
-    subst (λ m. SoundAs (g.M.Nand.contents m) (o.count + effects h) (tree_after o h)) (sym is)
+    subst (λ m. ConsistentAs (g.M.Nand.contents m) (o.count + effects h) (tree_after o h)) (sym is)
     (sound_end G o.shape last.device (g.M.Nand.contents last.device.media) (o.count + effects h) (tree_after o h) refl fit.whole
     (sym (shape_is e.core.formed.segments fit ∙ shape_at_end G v.core o h u last c.args.self.done s.0 e.goes))
     (closed_ends G v.core o h u last c.args.self.done s.0 e.goes y.told y.moments y.calls y.numbers e.core c.device_stands.ensures.volume c.device_stands.ensures.map writes p.0 p.1))

@@ -7,7 +7,7 @@ use Rattle.nl_core.specs.declared.state.Core.{Core}
 use Rattle.nl_spec_crashes.specs.Effects.{counted}
 use Rattle.nl_turns.specs.Served.{FaultHasCause, StaysReadOnly, effect_entry}
 use Rattle.nl_volume_stage.specs.Serving.{counts_of, refusing_of, some_number, to_stage_of}
-use Rattle.nl_volume_stage.specs.Standing.{StandsFor}
+use Rattle.nl_volume_stage.specs.Standing.{RepresentsHistory}
 use Rattle.nl_volume.proofs.Answering.{cause_since, later, line_stands}
 use Rattle.nl_volume.proofs.Effected.{line_answers, line_less, line_ordinal, line_place, line_staged, stays_read}
 use Rattle.nl_volume_stage.proofs.Serving.{worker_known}
@@ -30,8 +30,8 @@ returns-clause-stands g c v o h s of =
     let w = c.answer-reply.new.core in
     let x = c.answer-reply.ensures.answers in
     let k = line_stands G v.core o h u w c.args.self.now.done c.args.worker c.args.line c.args.call.now c.answer-reply.result.reply c.answer-reply.new.out c.answer-reply.result.files s.0 of x c.counts.ensures c.device_stands.ensures.volume in (
-      subst (λ (y : Core (Device g.row.M.Denot)). StandsFor G v.core o (h ++ effect_entry c.args.line c.answer-reply.result.reply ∷ []) y c.saturating_add-self.result) (sym c.count_call.ensures)
-          (subst (λ n. StandsFor G v.core o (h ++ effect_entry c.args.line c.answer-reply.result.reply ∷ []) (counted w) n) (sym c.saturating_add-self.ensures) k),
+      subst (λ (y : Core (Device g.row.M.Denot)). RepresentsHistory G v.core o (h ++ effect_entry c.args.line c.answer-reply.result.reply ∷ []) y c.saturating_add-self.result) (sym c.count_call.ensures)
+          (subst (λ n. RepresentsHistory G v.core o (h ++ effect_entry c.args.line c.answer-reply.result.reply ∷ []) (counted w) n) (sym c.saturating_add-self.ensures) k),
       x.files_are ∙ ap (λ (y : Core (Device g.row.M.Denot)). pages_of_files G y) (sym c.count_call.ensures),
     )
 

@@ -3,7 +3,7 @@ use Rattle.nl_device.specs.contracts.counts.DeviceCounts.TheImpl.{ghosts}
 use Rattle.nl_field.specs.CrashStates.{top}
 use Rattle.nl_meta.specs.Consistent.{page_on}
 use Rattle.nl_spec_commits.specs.Trees.{all_at}
-use Rattle.nl_core.specs.Trees.{CoreStands}
+use Rattle.nl_core.specs.Trees.{CoreRepresents}
 use Rattle.nl_spec_image.proofs.SoundProofs.{stands_for_one}
 use Rattle.nl_volume.proofs.Begins.{opening_stands}
 use Rattle.nl_volume.proofs.volume.Volume.open_volume.Goals as goal
@@ -21,7 +21,7 @@ returns-in-Ready-clause-stands g c tree lines are sound =
           (λ tells.
           let k = e.stands tells in
           let one = (stands_for_one image v.count v.count k.0 tree k.1.stands (sound tells).stands).1 in
-          (page_on image, subst (λ t. CoreStands G v (page_on image) (all_at v.count t)) one k.2)),
+          (page_on image, subst (λ t. CoreRepresents G v (page_on image) (all_at v.count t)) one k.2)),
       e.files,
     )
 

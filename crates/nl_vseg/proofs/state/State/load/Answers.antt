@@ -5,7 +5,7 @@ use Rattle.nl_blocks.specs.declared.states.BlockState.TheVariants.{Sealed}
 use Rattle.nl_blocks.specs.Table.{BlockRow, Table, block_at, in_state}
 use Rattle.nl_vseg.specs.Layout.{Layout, IsLayout, block_is_free}
 use Rattle.nl_vseg.specs.Seen.{seen}
-use Rattle.nl_vseg.specs.Copying.{Restated}
+use Rattle.nl_vseg.specs.Copying.{SetsFree}
 use Rattle.nl_vseg.specs.Used.{IsClosed, used_of}
 use Rattle.nl_vseg.specs.declared.place.Place.{Place}
 use Rattle.nl_vseg.proofs.Blocks.{restated, sealed_wear}
@@ -22,7 +22,7 @@ returns-clause-formed c =
     let same_block : block ≡ c.args.page / seg.table.size = ap (λ n. c.args.page / n) c.pages.ensures in
     let within : block < length seg.table.blocks = subst (λ b. b < length seg.table.blocks) (sym same_block) (div_below c.args.page seg.table.size (length seg.table.blocks) is.some c.requires.page) in
     let row : BlockRow = in_state (block_at seg.table block) Sealed in
-    let restated_is : Restated block false seg.table c.seal.new.self = subst (Restated block false seg.table) (sym c.seal.ensures) (restated seg.table block row is.first within) in
+    let restated_is : SetsFree block false seg.table c.seal.new.self = subst (SetsFree block false seg.table) (sym c.seal.ensures) (restated seg.table block row is.first within) in
     let step : IsClosed block seg.table c.seal.new.self = subst (IsClosed block seg.table) (sym c.seal.ensures) (closed_with seg.table block row is.first within refl) in
     let used_is = closed_used seg block c.seal.new.self step restated_is.numbers.same_size is.active_is refl in
     let place : Place = record { page = c.args.page; stamp = c.args.stamp } in
@@ -42,7 +42,7 @@ returns-clause-erased c p shown_is =
     let same_block : block ≡ c.args.page / seg.table.size = ap (λ n. c.args.page / n) c.pages.ensures in
     let within : block < length seg.table.blocks = subst (λ b. b < length seg.table.blocks) (sym same_block) (div_below c.args.page seg.table.size (length seg.table.blocks) is.some c.requires.page) in
     let row : BlockRow = in_state (block_at seg.table block) Sealed in
-    let restated_is : Restated block false seg.table c.seal.new.self = subst (Restated block false seg.table) (sym c.seal.ensures) (restated seg.table block row is.first within) in
+    let restated_is : SetsFree block false seg.table c.seal.new.self = subst (SetsFree block false seg.table) (sym c.seal.ensures) (restated seg.table block row is.first within) in
     let step : IsClosed block seg.table c.seal.new.self = subst (IsClosed block seg.table) (sym c.seal.ensures) (closed_with seg.table block row is.first within refl) in
     let used_is = closed_used seg block c.seal.new.self step restated_is.numbers.same_size is.active_is refl in
     let new : Layout = record { places = set seg.places c.args.vaddr (Some (record { page = c.args.page; stamp = c.args.stamp })); table = c.seal.new.self; soiled = seg.soiled; active = seg.active; used = used_of c.seal.new.self seg.active } in
@@ -59,7 +59,7 @@ returns-clause-still c p shown_is ne =
     let same_block : block ≡ c.args.page / seg.table.size = ap (λ n. c.args.page / n) c.pages.ensures in
     let within : block < length seg.table.blocks = subst (λ b. b < length seg.table.blocks) (sym same_block) (div_below c.args.page seg.table.size (length seg.table.blocks) is.some c.requires.page) in
     let row : BlockRow = in_state (block_at seg.table block) Sealed in
-    let restated_is : Restated block false seg.table c.seal.new.self = subst (Restated block false seg.table) (sym c.seal.ensures) (restated seg.table block row is.first within) in
+    let restated_is : SetsFree block false seg.table c.seal.new.self = subst (SetsFree block false seg.table) (sym c.seal.ensures) (restated seg.table block row is.first within) in
     let step : IsClosed block seg.table c.seal.new.self = subst (IsClosed block seg.table) (sym c.seal.ensures) (closed_with seg.table block row is.first within refl) in
     let used_is = closed_used seg block c.seal.new.self step restated_is.numbers.same_size is.active_is refl in
     let new : Layout = record { places = set seg.places c.args.vaddr (Some (record { page = c.args.page; stamp = c.args.stamp })); table = c.seal.new.self; soiled = seg.soiled; active = seg.active; used = used_of c.seal.new.self seg.active } in

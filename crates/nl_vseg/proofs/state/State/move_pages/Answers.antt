@@ -2,7 +2,7 @@ use Rattle.std.proofs.lemmas.List.{length-replicate}
 use Rattle.std.proofs.Common.{None, replicate, ◌≡◌, ◌+◌, ◌*◌, ◌/◌, ◌<◌, ◌≤◌, List, Option, length, refl, sym, ◌∙◌, ap, subst, arith}
 use Rattle.nl_nand.specs.Nand.{ErasedWithin}
 use Rattle.nl_nand.specs.declared.geometry.Geometry.{Geometry}
-use Rattle.nl_vseg.specs.Answers.{IsLost}
+use Rattle.nl_vseg.specs.Answers.{IsLostWrite}
 use Rattle.nl_vseg.specs.Places.{IsUnmapped, map_of, stamp_for}
 use Rattle.nl_vseg.specs.Layout.{ArePlaces, IsLayout, IsLayoutOf, bound, wears_of}
 use Rattle.nl_vseg.specs.Seen.{seen, FitsLayout}
@@ -164,11 +164,11 @@ returns-in-Lost g c =
         stands = record {
           formed = back.formed;
           fits = fits_then _ _ seg (seen c.give_back.new.self) b.medium.geometry states.numbers c.requires.stands.fits;
-          segment = λ t. absurd (b.medium.told t (subst IsLost (sym c.in-Lost.is) tt));
+          segment = λ t. absurd (b.medium.told t (subst IsLostWrite (sym c.in-Lost.is) tt));
         };
         shape = shape_of seg (seen c.give_back.new.self) (ap length back.given.same_places) states.numbers;
         stamps = λ v. ap (λ (l : List (Option Place)). stamp_for l v) back.given.same_places;
-        map = λ t. absurd (b.medium.told t (subst IsLost (sym c.in-Lost.is) tt));
+        map = λ t. absurd (b.medium.told t (subst IsLostWrite (sym c.in-Lost.is) tt));
         operates = operates_both (operates_as pages (b.medium.operates (wears_of c.args.self.now.blocks) (wear_at c.args.self.now.blocks c.args.self.now.active is.first ∙ sym c.wear-wear.ensures)))
             (operates_still _ _ _ _ _ _ (back.wears ∙ b.used.wears) refl refl);
         geometry = b.medium.geometry;
@@ -178,7 +178,7 @@ returns-in-Lost g c =
       given = λ ended. record { same_places = back.given.same_places; closed = back.given.closed; states = states };
       lost = record {
         lost = let l = b.lost c.in-Lost.wanted c.in-Lost.found c.in-Lost.is in ((l.0.0, sym (ap (λ (x : List (Option Place)). stamp_for x l.0.0) copies) ∙ l.0.1), l.1);
-        kept = λ t is. b.medium.told t (subst IsLost (sym c.in-Lost.is) is);
+        kept = λ t is. b.medium.told t (subst IsLostWrite (sym c.in-Lost.is) is);
       };
     }
 

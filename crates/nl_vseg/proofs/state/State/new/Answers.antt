@@ -4,7 +4,7 @@ use Rattle.std.proofs.Common.{◌≡◌, None, length, sym, ◌∙◌, ap, subst
 use Rattle.nl_field.specs.Numbers.{ShapeBounds}
 use Rattle.nl_field.proofs.Bounds.{bounds}
 use Rattle.nl_vseg.specs.Layout.{IsLayout}
-use Rattle.nl_vseg.specs.Used.{AreRising, used_of}
+use Rattle.nl_vseg.specs.Used.{OpenBlocksAreRisen, used_of}
 use Rattle.nl_vseg.proofs.Shapes.{few_pages, new_rising, new_segment, new_used}
 use Rattle.nl_vseg.proofs.state.State.new.Goals as goal
 
@@ -22,7 +22,7 @@ returns-clause-formed c =
     let used_is : used_of c.in_ok-new.field-0 0 ≡ c.args.shape.now.pages = ap (λ (t : Table). used_of t 0) table ∙ new_used c.args.shape.now in
     record {
       segment = subst IsLayout (λ i. record { places = sym places i; table = sym table i; soiled = sym soiled i; active = 0; used = sym used_is i }) (new_segment c.args.shape.now room);
-      rising = subst AreRising (sym table) (new_rising c.args.shape.now);
+      rising = subst OpenBlocksAreRisen (sym table) (new_rising c.args.shape.now);
       copies = ap length c.in_ok-no_places-2.ensures ∙ ap length (sym places);
       targets = ap length c.in_ok-no_targets.ensures ∙ (length-replicate c.args.shape.now.pages None ∙ sym (ap (λ (t : Table). t.size) table));
     }

@@ -9,7 +9,7 @@ use Rattle.nl_vseg.specs.Pages.{page_with}
 use Rattle.nl_vseg.specs.Places.{map_of}
 use Rattle.nl_vseg.specs.Layout.{Layout, bound, wears_of}
 use Rattle.nl_vseg.specs.Seen.{seen}
-use Rattle.nl_vseg.specs.Effects.{Programmed}
+use Rattle.nl_vseg.specs.Effects.{BlockIsProgrammed}
 use Rattle.nl_vseg.specs.Used.{used_of}
 use Rattle.nl_vseg.specs.declared.place.Place.{Place}
 use Rattle.nl_vseg.proofs.Blocks.{some_free}
@@ -166,8 +166,8 @@ returns-in-Done g c =
         };
         programmed = λ t done.
             let p = programmed seg is room page u.page old (stands.segment t) value new (cut t) c.args.vaddr c.args.stamp c.wear-wear.result main c.requires.vaddr (has t) w.shows in
-            subst (λ n. Programmed seg.table.size (bound seg) seg.active c.args.vaddr c.args.stamp n given old new) (c.wear-wear.ensures ∙ sym (same_wear seg.table table seg.active is.first first u.wears))
-            (subst (λ m. Programmed seg.table.size (bound seg) seg.active c.args.vaddr c.args.stamp c.wear-wear.result m old new) same p);
+            subst (λ n. BlockIsProgrammed seg.table.size (bound seg) seg.active c.args.vaddr c.args.stamp n given old new) (c.wear-wear.ensures ∙ sym (same_wear seg.table table seg.active is.first first u.wears))
+            (subst (λ m. BlockIsProgrammed seg.table.size (bound seg) seg.active c.args.vaddr c.args.stamp c.wear-wear.result m old new) same p);
         failed = λ failed. absurd (page_done_failed failed);
         write_fault = λ failed. absurd (page_done_failed failed);
       };

@@ -1,7 +1,7 @@
 use Rattle.std.proofs.Common.{◌≡◌, inl, inr, ◌/◌, ◌<◌, false, length, refl, sym, ◌∙◌, ap, subst}
 use Rattle.std.proofs.lemmas.Bool.{cases_eq}
 use Rattle.std.proofs.lemmas.List.{get_or_read}
-use Rattle.nl_vseg.specs.Copying.{Restated}
+use Rattle.nl_vseg.specs.Copying.{SetsFree}
 use Rattle.nl_vseg.specs.Layout.{IsLayoutOf, block_is_free, is_soiled}
 use Rattle.nl_vseg.specs.Places.{IsUnmapped}
 use Rattle.nl_vseg.specs.Seen.{seen}
@@ -62,7 +62,7 @@ returns g c =
       same = λ failed. restated_same t.was_free (restated_again t.taken (e.given failed).states);
       closed = λ failed. (e.given failed).closed;
       opened = λ done. record {
-        taken = subst (λ b. Restated b false s.blocks c.erase_active.new.self.blocks) (sym e.active) (restated_then t.taken (e.kept done));
+        taken = subst (λ b. SetsFree b false s.blocks c.erase_active.new.self.blocks) (sym e.active) (restated_then t.taken (e.kept done));
         begins = e.used done ∙ t.used.none;
         was_free = ap (block_is_free s.blocks) e.active ∙ t.was_free;
       };

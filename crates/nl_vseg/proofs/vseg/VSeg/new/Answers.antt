@@ -3,7 +3,7 @@ use Rattle.nl_field.specs.Numbers.{ShapeBounds}
 use Rattle.nl_field.proofs.Bounds.{bounds}
 use Rattle.nl_vseg.specs.Layout.{Layout, bound, room, shown}
 use Rattle.nl_vseg.specs.Seen.{seen}
-use Rattle.nl_vseg.specs.Segment.{KeepsSpare, is_blank, wear_of}
+use Rattle.nl_vseg.specs.Segment.{SegmentHasUnmapped, is_taken_as_erased, wear_of}
 use Rattle.nl_vseg.proofs.Shapes.{new_bound, new_blank, new_spare, new_room, new_wear}
 use Rattle.nl_vseg.proofs.Views.{blank_taken, spare_from}
 use Rattle.nl_vseg.proofs.vseg.VSeg.new.Goals as goal
@@ -14,7 +14,7 @@ returns-clause-bound c = ap bound c.in_ok-new.ensures.seen ∙ new_bound c.args.
 pub returns-clause-erased : goal.returns-clause-erased
 returns-clause-erased c =
     let roomy = subst ShapeBounds (sym c.requires.numbers) (bounds c.args.shape.now.blocks c.args.shape.now.pages c.requires.legal) in
-    subst (λ (s : Layout). (p : ℕ) → p < bound s → is_blank (shown s) p ≡ true) (sym c.in_ok-new.ensures.seen) (new_blank c.args.shape.now roomy)
+    subst (λ (s : Layout). (p : ℕ) → p < bound s → is_taken_as_erased (shown s) p ≡ true) (sym c.in_ok-new.ensures.seen) (new_blank c.args.shape.now roomy)
 
 pub returns-clause-wear : goal.returns-clause-wear
 returns-clause-wear c = subst (λ (s : Layout). (block : ℕ) → wear_of (shown s) block ≡ 0) (sym c.in_ok-new.ensures.seen) (new_wear c.args.shape.now)
@@ -22,7 +22,7 @@ returns-clause-wear c = subst (λ (s : Layout). (block : ℕ) → wear_of (shown
 pub returns-clause-spare : goal.returns-clause-spare
 returns-clause-spare c =
     let roomy = subst ShapeBounds (sym c.requires.numbers) (bounds c.args.shape.now.blocks c.args.shape.now.pages c.requires.legal) in
-    subst (λ (s : Layout). KeepsSpare (shown s)) (sym c.in_ok-new.ensures.seen) (spare_from (new_spare c.args.shape.now roomy))
+    subst (λ (s : Layout). SegmentHasUnmapped (shown s)) (sym c.in_ok-new.ensures.seen) (spare_from (new_spare c.args.shape.now roomy))
 
 pub returns-clause-room : goal.returns-clause-room
 returns-clause-room c =
