@@ -9,6 +9,7 @@ pub mod CopyLeft
 pub mod Counted
 pub mod Dropping
 pub mod FewMoved
+pub mod Finding
 pub mod Firm
 pub mod FormedLaws
 pub mod Forms

@@ -1,11 +1,12 @@
 -- What holds of each device whose tables stand.
-use Rattle.std.proofs.Common.{arith, cond, is_some, ◌≡◌, ℕ, ◌+◌, ◌*◌, ◌≤◌, List, Option, Some, None, option_map, refl, subst}
+use Rattle.std.proofs.Common.{arith, cond, is_some, ◌≡◌, ◌∙◌, ℕ, ◌+◌, ◌*◌, ◌≤◌, List, Option, Some, None, option_map, refl, subst, sym}
 use Rattle.nl_field.specs.Page.{Image}
 use Rattle.nl_field.specs.declared.shape.Shape.{Shape}
 use Rattle.nl_nand.specs.declared.geometry.Geometry.{Geometry}
 use Rattle.nl_iface.specs.Device.{IsDeviceState, state_of}
-use Rattle.nl_iface.specs.Names.{IsNames}
+use Rattle.nl_iface.specs.Names.{Has, IsNames}
 use Rattle.nl_iface.specs.Stored.{Value, Stored}
+use Rattle.nl_iface.specs.declared.Callback.{Callback}
 use Rattle.nl_pseg.specs.Segment.{Physical}
 use Rattle.nl_vseg.specs.Places.{map_of, place_of, stamp_for, stamp_in_place, value_at}
 use Rattle.nl_vseg.specs.Segment.{Segment}
@@ -15,7 +16,7 @@ use Rattle.nl_device.specs.Kept.{KeptPages}
 use Rattle.nl_device.specs.Shown.{IsStray, names_of}
 use Rattle.nl_device.specs.Space.{space_of}
 use Rattle.nl_callbacks.specs.Pending.{ArePendingEntries, PendingTable}
-use Rattle.nl_device.specs.Callbacks.{names_with}
+use Rattle.nl_device.specs.Callbacks.{callbacks_of, names_with}
 use Rattle.nl_device.specs.State.{given_of, marked_of, state_called}
 use Rattle.nl_iface.specs.Left.{LeavesPages}
 
@@ -80,3 +81,12 @@ in_hand pseg = refl
 pub none_bad : (pseg : Physical) → (space_of pseg).bad ≡ 0
 unfolding space_of
 none_bad pseg = refl
+
+-- With no pair no callback is pending, since its old name has one.
+pub unpaired : {geometry : Geometry} {tells : Type 0} {image : Image} {shape : Shape} {vseg : Segment} {pseg : Physical} {pending : PendingTable} {kept : KeptPages} {next : ℕ} → IsDevice geometry tells image shape vseg pseg pending kept next
+    → (space_of pseg).pairs ≡ 0 → (c : Callback) → Has (callbacks_of pending.callbacks) c → ⊥
+unpaired f none c has =
+    let old = f.called.old c has in
+    let within = old.1.1 in
+    let empty = sym f.names.pairs ∙ none in
+    absurd (omega (arith, within, empty))

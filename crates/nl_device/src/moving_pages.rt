@@ -1,5 +1,5 @@
 // The device moves pages to other places so that a block can be erased, and keeps a callback of each move.
-ghost use Rattle.nl_device.specs.Laws.{in_hand, none_bad};
+ghost use Rattle.nl_device.specs.Laws.{in_hand, none_bad, unpaired};
 ghost use Rattle.nl_field.specs.Page.{erased, page_at};
 ghost use Rattle.nl_pseg.specs.Cleaning.{IsChosen};
 ghost use Rattle.std.specs.Prelude.{◌≡◌, true, false};
@@ -21,6 +21,8 @@ impl<M: Nand> MovingPages for Device<M> {
     ghost blank = { λ d p. page_at (M.contents d.media) p ≡ erased };
 
     ghost in_hand = { λ d. in_hand d.pseg };
+
+    ghost unpaired = { λ d f none c has. unpaired f none c has };
 
     ghost none_bad = { λ d. none_bad d.pseg };
 

@@ -143,6 +143,9 @@ pub trait MovingPages: NamedPages {
     /// Where a victim is in hand, it is one block.
     ghost in_hand: { (s : Self) → (Self.names s).space.victim ≡ cond (is_some (victim s)) 1 0 };
 
+    /// Where no pair is left, no callback is pending.
+    ghost unpaired: { (s : Self) → Self.formed s → (Self.names s).space.pairs ≡ 0 → (c : CallbackOf) → Has (Self.names s).pending c → ⊥ };
+
     /// No block is bad.
     ghost none_bad: { (s : Self) → (Self.names s).space.bad ≡ 0 };
 }

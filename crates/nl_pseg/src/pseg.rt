@@ -15,6 +15,7 @@ ghost use Rattle.nl_pseg.specs.Segment.{CanLead, CanSpareBlock, IsClean, IsDead,
 ghost use Rattle.nl_pseg.specs.Space.{GivesBackBlocks, IsWhole, Lessens, reach, waiting};
 ghost use Rattle.nl_pseg.specs.Steps.{LoadsHeldPage};
 ghost use Rattle.nl_pseg.specs.Writes.{AddsPage, ReplacesPage, WritesOn};
+ghost use Rattle.nl_pseg_pages.specs.Pages.{TellsFound, stamp_at, stamp_found};
 
 use crate::state::State;
 use nl_field::{Memory, Named, NamedRead, PageBuf, Pointer, Shape, Tag};
@@ -209,6 +210,8 @@ impl PSeg {
         ensures answer { ReadsHeld (held_at self.old (resolve self.old.pairs at.name)) tag at.stamp buf.new result }
         ensures value { M.tells → result ≡ NamedRead.Done
             → page_at (M.contents media.old) (resolve self.old.pairs at.name) ≡ written buf.new }
+        ensures found { TellsFound (stamp_found buf.new) result }
+        ensures told { M.tells → TellsFound (stamp_at (page_at (M.contents media.old) (resolve self.old.pairs at.name))) result }
         ensures kept { M.tells → held_at self.old (resolve self.old.pairs at.name) ≡ Some (record { tag = tag; stamp = at.stamp })
             → (result ≡ NamedRead.Done) ⊎ (result ≡ NamedRead.Fault) }
         ensures geometry { M.geometry media.new ≡ M.geometry media.old }

@@ -6,6 +6,7 @@ ghost use Rattle.nl_nand.specs.Nand.{FaultsCounted, SameCrashStates};
 ghost use Rattle.nl_pseg.specs.Kept.{kept};
 ghost use Rattle.nl_pseg.specs.Answers.{ReadsHeld};
 ghost use Rattle.nl_pseg.specs.Segment.{IsPhysicalOf, held_at};
+ghost use Rattle.nl_pseg_pages.specs.Pages.{TellsFound, stamp_at, stamp_found};
 ghost use Rattle.nl_pseg.specs.Seen.{seen, FitsPhysical, IsPhysicalFormed};
 
 use crate::state::State;
@@ -29,6 +30,8 @@ impl State {
             (resolve (seen (kept self.now)).pairs at.name)) tag at.stamp buf.new result }
         ensures value { M.tells → result ≡ NamedRead.Done
             → page_at (M.contents media.old) (resolve (seen (kept self.now)).pairs at.name) ≡ written buf.new }
+        ensures found { TellsFound (stamp_found buf.new) result }
+        ensures told { M.tells → TellsFound (stamp_at (page_at (M.contents media.old) (resolve (seen (kept self.now)).pairs at.name))) result }
         ensures kept { M.tells → held_at (seen (kept self.now)) (resolve (seen (kept self.now)).pairs at.name)
             ≡ Some (record { tag = tag; stamp = at.stamp }) → (result ≡ NamedRead.Done) ⊎ (result ≡ NamedRead.Fault) }
         ensures geometry { M.geometry media.new ≡ M.geometry media.old }

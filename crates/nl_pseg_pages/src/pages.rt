@@ -4,7 +4,7 @@ ghost use Rattle.nl_field.specs.Page.{page_at, written};
 ghost use Rattle.nl_field.specs.Spelling.{is_stamp};
 ghost use Rattle.nl_field.specs.SpareRecord.{spare_bytes, spare_rec_of};
 ghost use Rattle.nl_nand.specs.Nand.{CanProgram, OperationLeaves, CrashLeaves, FaultsCounted, SameCrashStates, ticked};
-ghost use Rattle.nl_pseg_pages.specs.Pages.{main_of, page_with, shown_by};
+ghost use Rattle.nl_pseg_pages.specs.Pages.{TellsFound, main_of, page_with, shown_by, stamp_at, stamp_found};
 
 use nl_field::{NamedRead, PageBuf, SpareRec, Tag, spare_into, spare_of};
 use nl_nand::{Nand, ReadAnswer, WriteAnswer};
@@ -14,6 +14,7 @@ fn look(buf: &PageBuf, tag: Tag, wanted: u64) -> Option<u64>
     requires spelled { IsTrue (is_stamp wanted) }
     ensures wanted { IfNone result (shown_by (written buf.now) ≡ Some (tag, wanted, buf.now.main)) }
     ensures other { IfSome result (λ found. (found ≡ wanted → ⊥) × (shown_by (written buf.now) ≡ Some (tag, wanted, buf.now.main) → ⊥)) }
+    ensures found { IfSome result (λ found. (found ≡ 0) ⊎ (found ≡ stamp_found buf.now)) }
 {
     let (found, same) = match spare_of(buf.spare()) {
         None => (0, false),
@@ -46,6 +47,8 @@ pub fn read_page<M: Nand>(
     ensures value { M.tells → result ≡ NamedRead.Done → page_at (M.contents media.old) page ≡ written buf.new }
     ensures live { result ≡ NamedRead.NotLive → ⊥ }
     ensures lost { (w f : ℕ) → result ≡ NamedRead.Lost w f → (w ≡ wanted) × (f ≡ wanted → ⊥) }
+    ensures found { TellsFound (stamp_found buf.new) result }
+    ensures told { M.tells → TellsFound (stamp_at (page_at (M.contents media.old) page)) result }
     ensures kept { M.tells → shown_by (page_at (M.contents media.old) page)
         ≡ Some (tag, wanted, main_of (page_at (M.contents media.old) page)) → (result ≡ NamedRead.Done) ⊎ (result ≡ NamedRead.Fault) }
     ensures geometry { M.geometry media.new ≡ M.geometry media.old }

@@ -17,6 +17,8 @@ impl MovingPages for Still {
 
     ghost in_hand = { λ s. refl };
 
+    ghost unpaired = { λ s f none c has. has };
+
     ghost none_bad = { λ s. refl };
 
     fn level(&mut self) -> bool {

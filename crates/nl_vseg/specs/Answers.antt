@@ -1,5 +1,5 @@
 -- When the calls answer what.
-use Rattle.std.specs.Prelude.{◌≡◌, ℕ, ⊤, List, Option, Some, None}
+use Rattle.std.specs.Prelude.{◌≡◌, ◌⊎◌, ℕ, ⊤, List, Option, Some, None}
 use Rattle.nl_field.specs.Page.{PageBytes, Page, written}
 use Rattle.nl_field.specs.declared.answers.VirtualRead.{VirtualRead}
 use Rattle.nl_field.specs.declared.answers.VirtualRead.TheVariants as read
@@ -23,6 +23,13 @@ ReadsStampInto stamp buf read.Done = stamp ≡ Some (stamp_found buf)
 ReadsStampInto stamp buf read.Unmapped = stamp ≡ None
 ReadsStampInto stamp buf (read.Lost w f) = (stamp ≡ Some w) × (f ≡ w → ⊥)
 ReadsStampInto stamp buf read.Fault = stamp ≡ None → ⊥
+
+-- what a lost read tells to have found: the number that the spare bytes which were read spell, or 0
+abbrev pub TellsFound : PageBytes → VirtualRead → Type 0
+TellsFound buf read.Done = ⊤
+TellsFound buf read.Unmapped = ⊤
+TellsFound buf (read.Lost w f) = (f ≡ 0) ⊎ (f ≡ stamp_found buf)
+TellsFound buf read.Fault = ⊤
 
 -- What the read of an address answers that has this value: the value, and never Lost.
 abbrev pub ReadsValueInto : Option (ℕ × List ℕ) → PageBytes → VirtualRead → Type 0

@@ -5,7 +5,7 @@ ghost use Rattle.nl_field.specs.Spelling.{is_stamp};
 ghost use Rattle.nl_nand.specs.Nand.{FaultsCounted, MediumOnlyRead};
 ghost use Rattle.nl_vseg.specs.Places.{map_of, place_of, stamp_for};
 ghost use Rattle.nl_vseg.specs.Segment.{FitsSegment, IsSegmentOf, SegmentHasUnmapped, SameSize, is_taken_as_erased, wear_of};
-ghost use Rattle.nl_vseg.specs.Answers.{ReadsStampInto, ReadsValueInto};
+ghost use Rattle.nl_vseg.specs.Answers.{ReadsStampInto, ReadsValueInto, TellsFound};
 ghost use Rattle.nl_vseg.specs.Cleaning.{LosesUntold};
 ghost use Rattle.nl_vseg.specs.Writes.{StillServes, WritesValueAt, WritesDirectly};
 
@@ -98,6 +98,7 @@ impl VSeg {
         requires segment { M.tells → IsSegmentOf (M.contents media.old) self.old }
         ensures segment { self.new ≡ self.old }
         ensures answer { ReadsStampInto (stamp_for self.old.places vaddr) buf.new result }
+        ensures found { TellsFound buf.new result }
         ensures value { M.tells → ReadsValueInto (map_of self.old.places (M.contents media.old) vaddr) buf.new result }
         ensures only_reads { MediumOnlyRead M.geometry M.contents M.clock M.write_faults M.left media.old media.new }
         ensures read_faults { FaultsCounted (M.read_faults media.old) (M.read_faults media.new) (result ≡ VirtualRead.Fault) }

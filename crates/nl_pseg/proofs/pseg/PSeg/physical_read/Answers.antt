@@ -5,6 +5,7 @@ use Rattle.std.proofs.Common.{subst, ◌≡◌, ◌⊎◌, Some, sym, refl}
 use Rattle.nl_field.specs.Live.{resolve}
 use Rattle.nl_pseg.specs.Answers.{ReadsHeld}
 use Rattle.nl_pseg.specs.Segment.{Physical, held_at, IsPhysicalOf}
+use Rattle.nl_pseg_pages.specs.Pages.{TellsFound, stamp_at}
 use Rattle.nl_pseg.proofs.pseg.PSeg.physical_read.Goals as goal
 
 pub returns-clause-answer : goal.returns-clause-answer
@@ -27,6 +28,12 @@ returns-clause-value g c t = subst (λ (s : Physical). c.read.result ≡ Done �
 
 pub returns-clause-kept : goal.returns-clause-kept
 returns-clause-kept g c t = subst (λ (s : Physical). held_at s (resolve s.pairs c.args.at.name) ≡ Some (record { tag = c.args.tag; stamp = c.args.at.stamp }) → (c.read.result ≡ Done) ⊎ (c.read.result ≡ Fault)) c.self.view_is (c.read.ensures.kept t)
+
+pub returns-clause-found : goal.returns-clause-found
+returns-clause-found g c = c.read.ensures.found
+
+pub returns-clause-told : goal.returns-clause-told
+returns-clause-told g c t = subst (λ (s : Physical). TellsFound (stamp_at (page_at (g.M.Nand.contents c.args.media.now) (resolve s.pairs c.args.at.name))) c.read.result) c.self.view_is (c.read.ensures.told t)
 
 pub returns-clause-geometry : goal.returns-clause-geometry
 returns-clause-geometry g c = c.read.ensures.geometry

@@ -1,6 +1,9 @@
 use Rattle.nl_pseg.proofs.Apart.{read_done_fault, read_fault_done, read_not_live_done, read_not_live_fault, read_lost_done, read_lost_fault}
 use Rattle.nl_pseg.proofs.Medium.{done_unfailed, failed_fault, none_failed, same_left, within_medium}
 use Rattle.nl_field.specs.Page.{page_at}
+use Rattle.nl_field.specs.declared.answers.NamedRead.{NamedRead}
+use Rattle.nl_field.specs.declared.answers.NamedRead.TheVariants as read
+use Rattle.nl_pseg_pages.specs.Pages.{TellsFound, stamp_at, stamp_found}
 use Rattle.std.proofs.Common.{◌≡◌, ⊎_elim, Some, None, get_or, refl, sym, ◌∙◌, ap, subst, IsTrue, inl, inr}
 use Rattle.std.proofs.lemmas.Bool.{true≢false}
 use Rattle.nl_field.specs.Spelling.{is_stamp}
@@ -40,6 +43,21 @@ returns-in-Lost-clause-kept g c t named =
     let here : held_at (seen (kept c.args.self.now)) c.in-Some.place ≡ Some h = ap (λ n. get_or (kept c.args.self.now).held.items n None) c.in-Some.ensures.some ∙ named in
     let shows = (c.requires.segment t).holds c.in-Some.place h here in
     absurd (⊎_elim (λ done. read_lost_done (sym c.in-Lost.is ∙ done)) (λ fault. read_lost_fault (sym c.in-Lost.is ∙ fault)) (c.read_page.ensures.kept t shows))
+
+pub returns-else-eq-clause-found : goal.returns-else-eq-clause-found
+returns-else-eq-clause-found g c = inl refl
+
+pub returns-else-eq-clause-told : goal.returns-else-eq-clause-told
+returns-else-eq-clause-told g c t = inl refl
+
+pub returns-in-Lost-clause-found : goal.returns-in-Lost-clause-found
+returns-in-Lost-clause-found g c = subst (λ (answer : NamedRead). TellsFound (stamp_found c.read_page.new.buf) answer) c.in-Lost.is c.read_page.ensures.found
+
+pub returns-in-Lost-clause-told : goal.returns-in-Lost-clause-told
+returns-in-Lost-clause-told g c t =
+    let image = g.M.Nand.contents c.args.media.now in
+    let there = subst (λ (answer : NamedRead). TellsFound (stamp_at (page_at image c.in-Some.place)) answer) c.in-Lost.is (c.read_page.ensures.told t) in
+    subst (λ n. TellsFound (stamp_at (page_at image n)) (read.Lost c.in-Lost.wanted c.in-Lost.found)) c.in-Some.ensures.some there
 
 pub place_of-requires : goal.place_of-requires
 place_of-requires g c = c.requires.formed
