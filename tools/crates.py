@@ -30,7 +30,7 @@ def listing():
 
 def main():
     page = PAGE.read_text(encoding="utf-8")
-    found = re.search(r"\| Crate \| What it is \|.*?\n(?=\n)", page, re.S)
+    found = re.search(r"\| Crate \| What it is \|.*?\n(?=\n|\Z)", page, re.S)
     made = page[: found.start()] + listing() + page[found.end() :]
     if "--check" in sys.argv:
         return 0 if made == page else 1

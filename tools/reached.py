@@ -8,8 +8,9 @@ contracts see of it. What is std's, or of a crate of the kit, is not followed.
 
     tools/reached.py            each file, and how many of its definitions are reached of how many
     tools/reached.py --names    the reached definitions too
-    tools/reached.py --others   the files of definitions that are not reached
+    tools/reached.py --others   the files of definitions that are not reached, each with the sentence with which it begins
     tools/reached.py --files    each file that the `use` lines lead to, whatever of it is used
+    tools/reached.py --check    where docs/TRUSTED.md lists other files than these, and ends with 1 then
 
 It reads names, not types: a variable that is called as an imported definition counts as a use of it, so the list may be too long by that.
 """
@@ -217,6 +218,16 @@ class Reached:
         return self.found
 
 
+def sentence(path):
+    """The sentence with which a file of definitions begins."""
+    head = []
+    for line in read(path).split('\n'):
+        if not line.startswith('-- '):
+            break
+        head.append(line[3:])
+    return re.split(r'(?<=\.) ', ' '.join(head))[0]
+
+
 def by_use_lines():
     found, work = [], [top_call()]
     while work:
@@ -229,6 +240,23 @@ def by_use_lines():
                 if not kind:
                     work.append(target)
     return found
+
+
+def listed():
+    """The files that the tables of docs/TRUSTED.md name, of which one may be told beside the file before it."""
+    files = set()
+    for row in re.findall(r'^\| (`.*?) \|', read(os.path.join(TOP, 'docs', 'TRUSTED.md')), re.M):
+        crate = folder = ''
+        for name in re.findall(r'`([^`]+)`', row):
+            if name.startswith('nl_'):
+                crate, path = name.split('/')[0], name
+            elif name.startswith('src/'):
+                path = crate + '/' + name
+            else:
+                path = folder + '/' + name
+            folder = os.path.dirname(path)
+            files.add(path)
+    return files
 
 
 def order():
@@ -253,8 +281,14 @@ def main():
             for name in sorted(os.listdir(folder)) if os.path.isdir(folder) else []:
                 path = os.path.join(folder, name)
                 if name != 'Lib.antt' and path not in found:
-                    print(os.path.relpath(path, CRATES))
+                    print(f'{os.path.relpath(path, CRATES)}: {sentence(path)}')
         return
+    if '--check' in words:
+        files = {os.path.relpath(path, CRATES) for path in found}
+        other = [f'reached, not listed: {path}' for path in sorted(files - listed())]
+        other += [f'listed, not reached: {path}' for path in sorted(listed() - files)]
+        print('\n'.join(other + [f'{len(files)} files, {len(other)} otherwise in docs/TRUSTED.md']))
+        sys.exit(1 if other else 0)
     for path in sorted(found, key=place):
         names = found[path]
         total = len(reached.spec(path)[0]) if path.endswith('.antt') else None

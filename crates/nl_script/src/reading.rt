@@ -38,7 +38,7 @@ fn read_length(call: &Call) -> u32
 }
 
 // The sum of the read lengths with one more call.
-#[tactic(auto, unfolding(crate::specs::Script::counted))]
+#[tactic(auto, unfolding(crate::specs::Script::with_read_total))]
 fn counted(calls: u32, total: u64, call: &Call) -> Result<u64, Why>
     requires { total ≤ max_total }
     ensures sum { result ≡ spec.with_read_total calls total call.now }
