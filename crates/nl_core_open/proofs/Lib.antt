@@ -11,3 +11,4 @@ pub mod Pairs
 pub mod Readable
 pub mod SeenWear
 pub mod Shown
+pub mod Spelled

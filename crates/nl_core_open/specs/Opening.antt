@@ -1,11 +1,13 @@
 -- What an opening answers.
-use Rattle.std.specs.Prelude.{◌≡◌, ◌≢◌, ℕ, ⊤, [], length, Some}
+use Rattle.std.specs.Prelude.{◌≡◌, ◌≢◌, ◌+◌, ◌≤◌, ◌^◌, ℕ, ⊤, [], length, Some}
 use Rattle.nl_field.specs.Medium.{readable_pages}
 use Rattle.nl_field.specs.Page.{Image}
 use Rattle.nl_field.specs.declared.super_page.SuperRec.{SuperRec}
 use Rattle.nl_device.specs.Medium.{medium_of}
 use Rattle.nl_flight.specs.Flight.{nothing}
 use Rattle.nl_iface.specs.declared.counts.Counts.{Ghosts}
+use Rattle.nl_nand.specs.declared.geometry.Geometry.{Geometry}
+use Rattle.nl_scan.specs.Tables.{FitsMedium, ScanTable, greatest_stamp}
 use Rattle.nl_device.specs.declared.device.Device.{Device}
 use Rattle.nl_meta.specs.Committed.{committed_of}
 use Rattle.nl_meta.specs.Consistent.{Consistent}
@@ -74,3 +76,11 @@ pub record IsOpenedCore {D : Type 0} (g : Ghosts D) (v : Core D) : Type 0 where
   pub committed : v.committed ≡ v.count
   pub moment : v.moment ≡ g.clock v.device
   pub stopped : v.stopped ≡ stopped_by (g.write_faults v.device)
+
+-- Over any medium: the number is the one behind the greatest write sequence number of the pages in a table that a scan of a medium with
+-- this geometry can make. No page spells a greater one than 2^63 - 1.
+pub record IsBehindScan (geometry : Geometry) (next : ℕ) : Type 0 where
+  pub table : ScanTable
+  pub fits : FitsMedium geometry table
+  pub next_is : next ≡ 1 + greatest_stamp table.seen
+  pub spelled : next ≤ 2 ^ 63

@@ -1,5 +1,5 @@
 //! The opening of a volume over a medium, and the figures that it tells.
-ghost use Rattle.std.specs.Prelude.{◌≡◌, ◌*◌, ◌+◌, ◌≤◌, [], IfOk, IsTrue};
+ghost use Rattle.std.specs.Prelude.{◌≡◌, ◌*◌, ◌+◌, ◌<◌, ◌≤◌, ◌^◌, [], IfOk, IsTrue};
 ghost use Rattle.nl_spec_commits.specs.Trees.{all_at};
 ghost use Rattle.nl_core.specs.Core.{IsCore, begun_of};
 ghost use Rattle.nl_core.specs.Trees.{CoreRepresents};
@@ -12,7 +12,7 @@ ghost use Rattle.nl_flight.specs.Flight.{nothing};
 ghost use Rattle.nl_meta.specs.Committed.{next_number};
 ghost use Rattle.nl_meta.specs.Consistent.{page_on};
 ghost use Rattle.nl_core_open.specs.Figures.{ReportsWear, pairs_of};
-ghost use Rattle.nl_core_open.specs.Opening.{IfCounted, IfCoreReady, IsCoreOpenFault, IsOpenedCore, OnlyReadsMedium, CoreOpensImage, opened_medium};
+ghost use Rattle.nl_core_open.specs.Opening.{IfCounted, IfCoreReady, IsBehindScan, IsCoreOpenFault, IsOpenedCore, OnlyReadsMedium, CoreOpensImage, opened_medium};
 ghost use Rattle.nl_spec_image.specs.Stands.{ConsistentAs};
 ghost use Rattle.nl_tree.specs.Tree.{Tree};
 
@@ -75,11 +75,14 @@ impl<M: Nand> Opened<M> {
 /// The medium is only read. Over one that tells what it stores it is blank exactly where no page is readable, and else ready exactly where
 /// the image is consistent, or damaged at the walk's first fault; ready, it stands for the tree as which the image is sound, and its next
 /// write sequence number, the number of its next transaction, and how many pairs it has are what the image tells. Ready, it tells how many
-/// pages its files have, and the least and the greatest wear of the readable pages.
+/// pages its files have, and the least and the greatest wear of the readable pages. Over any medium it has answered fewer than 2^63 calls,
+/// and its next write sequence number is the one behind the greatest that its scan told.
 pub fn open<M: Nand>(alloc: Global, media: M) -> Opened<M>
     ensures core { IfCoreReady result (λ v. IsCore ⟦<Device<M> as Counts>⟧ v) }
     ensures opened { IfCoreReady result (λ v. IsOpenedCore ⟦<Device<M> as Counts>⟧ v) }
     ensures files { IfCounted ⟦<Device<M> as Counts>⟧ result }
+    ensures few { IfCoreReady result (λ v. v.count < 2 ^ 63) }
+    ensures behind { IfCoreReady result (λ v. IsBehindScan (M.geometry media) (⟦<Device<M> as Counts>⟧.next_stamp v.device)) }
     ensures number { M.tells
         → IfCoreReady result (λ v. begun_of v + 1 ≡ next_number (shape_of_image (M.contents media)) (virtual_bytes (M.contents media))) }
     ensures told { M.tells → CoreOpensImage (M.contents media) result }
@@ -106,6 +109,8 @@ fn open_formed<M: Nand>(alloc: Global, media: M, shape: Shape) -> Opened<M>
     ensures core { IfCoreReady result (λ v. IsCore ⟦<Device<M> as Counts>⟧ v) }
     ensures opened { IfCoreReady result (λ v. IsOpenedCore ⟦<Device<M> as Counts>⟧ v) }
     ensures files { IfCounted ⟦<Device<M> as Counts>⟧ result }
+    ensures few { IfCoreReady result (λ v. v.count < 2 ^ 63) }
+    ensures behind { IfCoreReady result (λ v. IsBehindScan (M.geometry media) (⟦<Device<M> as Counts>⟧.next_stamp v.device)) }
     ensures number { M.tells
         → IfCoreReady result (λ v. begun_of v + 1 ≡ next_number (shape_of_image (M.contents media)) (virtual_bytes (M.contents media))) }
     ensures told { M.tells → CoreOpensImage (M.contents media) result }

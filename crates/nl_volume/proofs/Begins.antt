@@ -63,6 +63,7 @@ module _ {D : Type 0} (g : Ghosts D) (v : Core D) (tree : Tree) (lines : List Li
       effects = refl;
       since = record { clock = omega arith; read_faults = omega arith; write_faults = omega arith };
       next_stamp = λ low less. omega arith;
+      stamps_rise = omega arith;
       read_only = λ off. let k = full off in (inr k.0, (inr k.1, let all = k.0 in let end = k.1 in omega (arith, all, end)));
       marks = λ e none. absurd none;
       syncs = λ i. tt;

@@ -20,6 +20,8 @@ opens_on_same g image image' v same o = record {
   tree = o.tree;
   opens = λ t. subst (λ (i : Image). VolumeOpensAs g i v o.tree) (sym (same t)) (o.opens t);
   number = λ t. subst (λ (i : Image). begun_of v + 1 ≡ next_number (shape_of_image i) (virtual_bytes i)) (sym (same t)) (o.number t);
+  few = o.few;
+  spelled = o.spelled;
 }
 
 -- a walk that finds a fault finds an image that is not sound

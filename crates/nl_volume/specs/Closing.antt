@@ -4,7 +4,7 @@ use Rattle.nl_tree.specs.Causes.{Counts}
 use Rattle.nl_device.specs.Medium.{medium_of}
 use Rattle.nl_device.specs.declared.device.Device.{Device}
 use Rattle.nl_iface.specs.declared.counts.Counts.{Ghosts}
-use Rattle.nl_core.specs.Calls.{CommitsAll}
+use Rattle.nl_core.specs.Calls.{CommitsAll, CommitsNot}
 use Rattle.nl_core.specs.Goes.{PreservesVolume}
 use Rattle.nl_core.specs.declared.state.Core.{Core}
 use Rattle.nl_turns.specs.History.{Opening, effects}
@@ -34,6 +34,16 @@ pub record ClosesCommitted {M : Type 0} (old : Core (Device M)) (closed : Closed
   pub unworn : closed.worn ≡ false
   pub no_fault : closed.fault ≡ false
   pub none_lost : closed.lost ≡ false
+
+-- The last commit met a page that did not hold the write sequence number that was wanted, and was not done. The volume could be written to,
+-- and no operation of the medium failed; what waits to be freed, the nodes and what is in flight are as before. It never comes over a medium
+-- that tells its contents.
+pub record LosesLastCommit {M : Type 0} (g : Ghosts (Device M)) (old : Core (Device M)) (closed : Closed M) : Type 0 where
+  pub writes : old.stopped ≡ 0
+  pub unworn : closed.worn ≡ false
+  pub no_fault : closed.fault ≡ false
+  pub not_done : (last : Core (Device M)) × EndsWithMedium g old last closed.media × CommitsNot g old last
+  pub untold : g.tells → ⊥
 
 -- A last commit made all calls durable.
 abbrev pub CommitsLast : {M : Type 0} → Ghosts (Device M) → Core (Device M) → M → Type 0

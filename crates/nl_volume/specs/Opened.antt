@@ -1,5 +1,5 @@
 -- A volume that opened on a medium, or why none did.
-use Rattle.std.specs.Prelude.{◌≡◌, ◌≢◌, ⊤, ℕ, ◌+◌, [], Some}
+use Rattle.std.specs.Prelude.{◌≡◌, ◌≢◌, ⊤, ℕ, ◌+◌, ◌<◌, ◌≤◌, ◌^◌, [], Some}
 use Rattle.nl_field.specs.CrashStates.{Rose}
 use Rattle.nl_field.specs.Medium.{readable_pages, shape_of_image}
 use Rattle.nl_field.specs.Page.{Image}
@@ -22,11 +22,13 @@ pub record VolumeOpensAs {D : Type 0} (g : Ghosts D) (image : Image) (v : Core D
   pub next_stamp : g.next_stamp v.device ≡ next_stamp_of image
 
 -- Where the medium tells its contents, the volume opened as what the image is, with this tree, and its next transaction has the number that
--- the image tells.
+-- the image tells. Over any medium its count of calls and its next write sequence number are no more than pages can spell.
 pub record OpensOn {D : Type 0} (g : Ghosts D) (image : Image) (v : Core D) : Type 0 where
   pub tree : Tree
   pub opens : g.tells → VolumeOpensAs g image v tree
   pub number : g.tells → begun_of v + 1 ≡ next_number (shape_of_image image) (virtual_bytes image)
+  pub few : v.count < 2 ^ 63
+  pub spelled : (0 < g.next_stamp v.device) × (g.next_stamp v.device ≤ 2 ^ 63)
 
 -- the medium that came back
 abbrev pub medium_in : {M : Type 0} → NotOpened M → M

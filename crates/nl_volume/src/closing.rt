@@ -9,7 +9,7 @@ ghost use Rattle.nl_turns.specs.History.{Opening, effects, opening_counts, tree_
 ghost use Rattle.nl_turns.specs.Served.{StandsForSome};
 ghost use Rattle.nl_turns.specs.declared.entry.Entry.{Entry as TurnEntry};
 ghost use Rattle.nl_volume_stage.specs.Serving.{counts_of};
-ghost use Rattle.nl_volume.specs.Closing.{CommitsLast, ClosesCommitted, IsYoungAtEnd, counts_on};
+ghost use Rattle.nl_volume.specs.Closing.{CommitsLast, ClosesCommitted, IsYoungAtEnd, LosesLastCommit, counts_on};
 ghost use Rattle.nl_volume_stage.specs.Standing.{run_of};
 ghost use Rattle.nl_volume.specs.declared.volume.Volume.{Volume as VolumeOf};
 
@@ -35,7 +35,9 @@ impl<M: Nand> Volume<M> {
     /// Commits once, unless the volume is read-only or worn, and gives the medium back. What a stop left at any moment since the opening
     /// was left before it, or is sound as the tree after a prefix of the calls that holds each sync up to that moment. Where a volume that
     /// can be written to is closed with no fault and no page lost, all calls are committed; where no write failed in it either, the medium
-    /// ends sound as the tree after all calls. So it does where no operation failed since the opening and the volume is not worn.
+    /// ends sound as the tree after all calls. So it does where no operation failed since the opening and the volume is not worn. Where
+    /// the write sequence numbers were used up as the volume was opened, that is told. A page is told as lost where the commit met one that
+    /// did not hold the write sequence number that was wanted, and only there.
     pub fn close(self) -> Closed<M>
         requires { StandsForSome ⟦<Volume<M> as Kept>⟧.stands self }
         ensures stops { (v : VolumeOf M) (o : Opening) (h : List TurnEntry) → ⟦<Volume<M> as Kept>⟧.stands v o h self
@@ -51,6 +53,8 @@ impl<M: Nand> Volume<M> {
             → IsYoungAtEnd M.tells o h (begun_of v.core) (M.clock result.media)
             → (FaultRose (opening_counts o) (counts_on M.clock M.read_faults M.write_faults result.media) → ⊥) → result.worn ≡ false
             → ConsistentAs (M.contents result.media) (o.count + effects h) (tree_after o h) }
+        ensures used_up { (v : VolumeOf M) (o : Opening) (h : List TurnEntry) → ⟦<Volume<M> as Kept>⟧.stands v o h self
+            → 2 ^ 62 ≤ o.next_stamp → result.worn ≡ true }
         ensures commits { ClosesCommitted self.core result → CommitsLast ⟦<Device<M> as Counts>⟧ self.core result.media }
         ensures left { (self.core.stopped ≢ 0) ⊎ (result.worn ≡ true) → result.media ≡ medium_of self.core.device }
         ensures counts { NeverFall (counts_of ⟦<Device<M> as Counts>⟧ self.core.device)
@@ -58,6 +62,7 @@ impl<M: Nand> Volume<M> {
         ensures fault { result.fault ≡ true → FaultRose (counts_of ⟦<Device<M> as Counts>⟧ self.core.device)
             (counts_on M.clock M.read_faults M.write_faults result.media) }
         ensures lost { M.tells → result.lost ≡ false }
+        ensures meets { result.lost ≡ true → LosesLastCommit ⟦<Device<M> as Counts>⟧ self.core result }
         ensures worn { IsTrue result.worn ↔ 2 ^ 62 ≤ ⟦<Device<M> as Counts>⟧.next_stamp self.core.device }
     {
         let mut volume = self;

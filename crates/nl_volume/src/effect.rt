@@ -4,7 +4,7 @@ ghost use Rattle.nl_tree.specs.Causes.{FaultIsDue, NeverFall, fault_due};
 ghost use Rattle.nl_tree.specs.Replay.{Answers};
 ghost use Rattle.nl_tree.specs.declared.call.Call.TheVariants.{Clean};
 ghost use Rattle.nl_turns.specs.Served.{FaultHasCause, FromEachWithLine, StandsForSomeWithLine, StaysReadOnly, effect_entry, ordinal_due, outcome_due, place_due};
-ghost use Rattle.nl_calls.specs.Answering.{RunsReclaimPass, pages_of_files};
+ghost use Rattle.nl_calls.specs.Answering.{EndsLine, RunsReclaimPass, pages_of_files};
 ghost use Rattle.nl_volume.specs.Effects.{AnswersLine, CleansAndCounts};
 ghost use Rattle.nl_volume_stage.specs.Serving.{counts_of, refusing_of, some_number, to_stage_of};
 ghost use Rattle.nl_volume_stage.specs.Staging.{RepresentsWithLine};
@@ -26,8 +26,8 @@ impl<M: Nand> Volume<M> {
     /// The effect of a line: its place in the order of all calls, its number among the effects since the opening, and its reply, with the
     /// bytes that belong to it in the buffer. A line whose staging failed is answered with that number; one that changes something is
     /// refused on a volume that is read-only or worn; else a fault comes only of what failed within. Pages in flight of another line of the
-    /// worker are freed first, and nothing of the worker is in flight afterwards. A call for cleaning that is done did a round of
-    /// reclaiming.
+    /// worker are freed first, and nothing of the worker is in flight afterwards; lines of other workers stay. A call for cleaning that is
+    /// done did a round of reclaiming.
     pub fn effect(&mut self, worker: u8, line: u32, call: &Call, out: &mut ReplyBuf) -> Answered
         requires { StandsForSomeWithLine ⟦<Volume<M> as Kept>⟧.stands self.old worker line call.now }
         ensures stands { FromEachWithLine ⟦<Volume<M> as Kept>⟧.stands self.old worker line call.now
@@ -35,6 +35,7 @@ impl<M: Nand> Volume<M> {
         ensures counts { NeverFall (counts_of ⟦<Device<M> as Counts>⟧ self.old.core.device)
             (counts_of ⟦<Device<M> as Counts>⟧ self.new.core.device) }
         ensures less { (w : ℕ) (l : ℕ) → w ≢ worker → to_stage_of self.new.core.flight w l ≤ to_stage_of self.old.core.flight w l }
+        ensures ended { EndsLine worker self.old.core.flight self.new.core.flight }
         ensures read_only { StaysReadOnly (counts_of ⟦<Device<M> as Counts>⟧ self.old.core.device)
             (counts_of ⟦<Device<M> as Counts>⟧ self.new.core.device) (some_number self.old.core.stopped)
             (some_number self.new.core.stopped) }

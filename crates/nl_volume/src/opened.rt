@@ -2,7 +2,7 @@ ghost use Rattle.std.specs.Prelude.{◌≡◌, [], List, IfErr, IfOk};
 ghost use Rattle.nl_device.specs.Medium.{medium_of};
 ghost use Rattle.nl_field.specs.Scan.{greatest_wear, least_wear};
 ghost use Rattle.nl_core_open.specs.Figures.{pairs_of};
-ghost use Rattle.nl_core_open.specs.Opening.{OnlyReadsMedium};
+ghost use Rattle.nl_core_open.specs.Opening.{IsBehindScan, OnlyReadsMedium};
 ghost use Rattle.nl_spec_image.specs.Stands.{ConsistentAs};
 ghost use Rattle.nl_tree.specs.Tree.{Tree};
 ghost use Rattle.nl_tree.specs.declared.call.Line.{Line};
@@ -33,9 +33,11 @@ pub enum NotOpened<M: Nand> {
 
 /// The volume of a medium, which is only read, or why there is none. Over a medium that tells its contents it opens as what the image is:
 /// its tree, its next write sequence number, the number of its next transaction, its pairs and its wear are those of the image. It stands
-/// for a run of whatever lines from the tree as which the image is sound.
+/// for a run of whatever lines from the tree as which the image is sound. Over any medium its count of calls is below 2^63, and its next
+/// write sequence number the one behind the greatest that its scan told.
 pub fn open<M: Nand>(alloc: Global, media: M) -> Result<Volume<M>, NotOpened<M>>
     ensures opened { IfOk result (λ v. OpensOn ⟦<Device<M> as Counts>⟧ (M.contents media) v.core) }
+    ensures behind { IfOk result (λ v. IsBehindScan (M.geometry media) (⟦<Device<M> as Counts>⟧.next_stamp v.core.device)) }
     ensures pairs { IfOk result (λ v. M.tells → (⟦<Device<M> as Counts>⟧.names v.core.device).space.pairs ≡ pairs_of (M.contents media)) }
     ensures wear { IfOk result (λ v. M.tells → (v.least ≡ least_wear (M.contents media))
         × (v.greatest ≡ greatest_wear (M.contents media))) }

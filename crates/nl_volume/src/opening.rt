@@ -1,4 +1,4 @@
-ghost use Rattle.std.specs.Prelude.{◌≡◌, ◌+◌, [], List};
+ghost use Rattle.std.specs.Prelude.{◌≡◌, ◌+◌, ◌<◌, ◌^◌, [], List};
 ghost use Rattle.nl_core.specs.Core.{begun_of};
 ghost use Rattle.nl_field.specs.CrashStates.{Rose};
 ghost use Rattle.nl_field.specs.Medium.{shape_of_image};
@@ -6,7 +6,7 @@ ghost use Rattle.nl_field.specs.Scan.{greatest_wear, least_wear, next_stamp_of};
 ghost use Rattle.nl_field.specs.Virtual.{virtual_bytes};
 ghost use Rattle.nl_meta.specs.Committed.{next_number};
 ghost use Rattle.nl_core_open.specs.Figures.{pairs_of};
-ghost use Rattle.nl_core_open.specs.Opening.{OnlyReadsMedium};
+ghost use Rattle.nl_core_open.specs.Opening.{IsBehindScan, OnlyReadsMedium};
 ghost use Rattle.nl_spec_image.specs.Stands.{ConsistentAs};
 ghost use Rattle.nl_tree.specs.Tree.{Tree};
 ghost use Rattle.nl_tree.specs.declared.call.Line.{Line as LineOf};
@@ -41,7 +41,8 @@ impl<M: Nand> Volume<M> {
     /// readable, and else opened exactly where the image is consistent, or damaged at the walk's first fault. Opened, it stands for a run
     /// from its count on, and from the tree as which the image is sound, with any lines that are to come. Its next write sequence number,
     /// the number of its next transaction, how many pairs it has, and the least and the greatest wear that it keeps are what the image
-    /// tells.
+    /// tells. Over any medium its count of calls is below 2^63, and its next write sequence number the one behind the greatest that its
+    /// scan told.
     pub fn open_volume(alloc: Global, media: M) -> Opened<M>
         ensures stands { (tree : Tree) (lines : List LineOf) → EachIsLine lines
             → IfOpened result (λ v. (M.tells → ConsistentAs (M.contents media) v.core.count tree)
@@ -52,6 +53,9 @@ impl<M: Nand> Volume<M> {
             ≡ next_stamp_of (M.contents media)) }
         ensures number { M.tells → IfOpened result (λ v. begun_of v.core + 1
             ≡ next_number (shape_of_image (M.contents media)) (virtual_bytes (M.contents media))) }
+        ensures few { IfOpened result (λ v. v.core.count < 2 ^ 63) }
+        ensures behind { IfOpened result (λ v. IsBehindScan (M.geometry media)
+            (⟦<Device<M> as Counts>⟧.next_stamp v.core.device)) }
         ensures pairs { M.tells → IfOpened result (λ v. (⟦<Device<M> as Counts>⟧.names v.core.device).space.pairs
             ≡ pairs_of (M.contents media)) }
         ensures wear { M.tells → IfOpened result (λ v. (v.least ≡ least_wear (M.contents media))

@@ -2,7 +2,9 @@
 ghost use Rattle.std.specs.Prelude.{◌≡◌, ◌≢◌, ◌⊎◌, ◌↔◌, ◌≤◌, ◌^◌, ℕ, ◌++◌, ◌∷◌, []};
 ghost use Rattle.nl_tree.specs.Causes.{FaultRose, LostHasCause, NeverFall, fault_sum};
 ghost use Rattle.nl_turns.specs.Served.{FromEachWithLine, KeepsStagedFaults, StagesLess, StandsForSomeWithLine, StaysReadOnly, is_fault, is_staged, stage_entry};
+ghost use Rattle.nl_calls_steps.specs.Calls.{OtherLinesStay};
 ghost use Rattle.nl_volume_stage.specs.Serving.{counts_of, refusing_of, some_number, to_stage_of};
+ghost use Rattle.nl_volume_stage.specs.StagedPages.{IsTagOfCall, LeavesInFlight, StaysWritable};
 ghost use Rattle.nl_volume_stage.specs.Staging.{TellsLeft};
 
 use crate::volume::Volume;
@@ -17,7 +19,9 @@ impl<M: Nand> Volume<M> {
     /// Stages one whole page of a line ahead of its effect: it is programmed, and in flight from now on. `Stopped` comes exactly where the
     /// volume is read-only or worn, `Whole` where no whole page of the line is left: its path leads to no file, or it has no further page
     /// that lies wholly in its range, or its range ends behind the greatest size. Where none is left, `Fault` and `Lost` come only from
-    /// reading what the path leads to. Pages in flight of another line of the worker are freed first.
+    /// reading what the path leads to. Pages in flight of another line of the worker are freed first, and lines of other workers stay. The
+    /// page is one of the file to which the path leads now, of the generation that the file has. `Staged`, `Whole` and `Lost` come only
+    /// where no write failed.
     pub fn stage(&mut self, worker: u8, line: u32, call: &Call) -> Stage
         requires { StandsForSomeWithLine ⟦<Volume<M> as Kept>⟧.stands self.old worker line call.now }
         ensures stands { FromEachWithLine ⟦<Volume<M> as Kept>⟧.stands self.old worker line call.now
@@ -38,6 +42,11 @@ impl<M: Nand> Volume<M> {
             → FaultRose (counts_of ⟦<Device<M> as Counts>⟧ self.old.core.device) (counts_of ⟦<Device<M> as Counts>⟧ self.new.core.device) }
         ensures lost { (wanted : ℕ) (found : ℕ) → result ≡ Stage.Lost wanted found → LostHasCause M.tells wanted found }
         ensures wear { (self.new.least ≡ self.old.least) × (self.new.greatest ≡ self.old.greatest) }
+        ensures in_flight { LeavesInFlight ⟦<Device<M> as Counts>⟧ worker line
+            (IsTagOfCall ⟦<Device<M> as Counts>⟧ self.old.core call.now) self.old.core self.new.core result }
+        ensures others { OtherLinesStay worker self.old.core.flight self.new.core.flight }
+        ensures unfailed { result ≢ Stage.Fault → result ≢ Stage.Stopped
+            → StaysWritable ⟦<Device<M> as Counts>⟧ self.old.core self.new.core }
     {
         stage_line(&mut self.core, worker, line, call, &mut self.page)
     }

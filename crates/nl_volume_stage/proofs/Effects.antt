@@ -120,6 +120,7 @@ module _ {D : Type 0} (g : Ghosts D) (origin : Core D) (o : Opening) (h : List E
     effects = let was = s.effects in let more = more_effects in omega (arith, was, more);
     since = later_then (opening_counts o) (counts_of g u.device) (counts_of g w.device) s.since later;
     next_stamp = λ low less. let c = clock in let n = writes in let same = step.reads.medium.next_stamp in let was = s.next_stamp (omega (arith, low, c)) (omega (arith, less, n)) in omega (arith, was, same, c, n);
+    stamps_rise = let was = s.stamps_rise in let same = step.reads.medium.next_stamp in omega (arith, was, same);
     read_only = λ now.
         let r = s.read_only (λ none. now (same_stopped ∙ none)) in (
           still_failed (opening_counts o) (counts_of g u.device) (counts_of g w.device) later s.since most.1 r.0,

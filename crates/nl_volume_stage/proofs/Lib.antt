@@ -11,6 +11,8 @@ pub mod Histories
 pub mod Left
 pub mod Lines
 pub mod Nexts
+pub mod Own
+pub mod Pages
 pub mod Serving
 pub mod Staged
 pub mod Stages

@@ -7,7 +7,7 @@ use Rattle.nl_tree.specs.declared.call.Call.{Call}
 use Rattle.nl_tree.specs.declared.turn.Stage.{Stage}
 use Rattle.nl_tree.specs.declared.turn.Stage.TheVariants as stage
 use Rattle.nl_core_callbacks.specs.Handled.{nameless_line}
-use Rattle.nl_flight.specs.Flight.{InFlight, IsFlight, begun, of_worker, with_line}
+use Rattle.nl_flight.specs.Flight.{InFlight, IsFlight, begun, of_worker}
 use Rattle.nl_flight.specs.declared.page.FlightPage.{FlightPage}
 use Rattle.nl_iface.specs.Calls.{StoresPages}
 use Rattle.nl_iface.specs.Device.{IsVolumeShape}
@@ -25,6 +25,7 @@ use Rattle.nl_calls_steps.proofs.LineEnds.{flight_step}
 use Rattle.nl_calls_steps.proofs.Stepping.{read_alike}
 use Rattle.nl_turns.specs.Served.{is_fault}
 use Rattle.nl_volume_stage.specs.Serving.{counts_of, some_number, staged_fault, to_stage_of}
+use Rattle.nl_volume_stage.specs.StagedPages.{EndsTried}
 use Rattle.nl_volume_stage.specs.Staging.{IsNextTag, PassesOn, StagesOn}
 use Rattle.nl_volume_stage.specs.Turns.{AreCounts, FaultsStay}
 use Rattle.nl_volume_stage.proofs.Failing.{failure_noted}
@@ -210,38 +211,56 @@ module _ {D : Type 0} (g : Ghosts D) (worker line : ℕ) (call : Call) (u v : Co
     lost = λ w f same. let one : wanted ≡ w = cc same in let two : found ≡ f = cc same in subst (λ k. LostHasCause g.tells k f) one (subst (λ k. LostHasCause g.tells wanted k) two is);
   }
 
-  -- an operation of the medium failed, and the line keeps that
-  module _ (core : IsCore g u) (after : IsCore g v) (volume : IsVolumeShape (g.shape v.device)) (stores : g.tells → StoresPages g v.device) (most : AreCounts g v) (known : worker < 8) (some : 0 < line) (has : HasLineOrNone v.flight worker line)
-      (rose : FaultRose (counts_of g u.device) (counts_of g v.device)) (faults : FaultsStay u.flight v.flight) (lines : IsFlight (notes_fault g worker line v).flight) where
-    abbrev pub w : Core D
-    w = notes_fault g worker line v
+-- ---- an operation of the medium failed, and the line keeps that
 
-    abbrev z : InFlight
-    z = record (line_of v.flight worker line) { fault = fault_sum (counts_of g v.device) }
+module _ {D : Type 0} (g : Ghosts D) (worker line : ℕ) (call : Call) (u v : Core D) (before : Stage) (p : StagesOn g worker line call u v before) (core : IsCore g u) (after : IsCore g v) (volume : IsVolumeShape (g.shape v.device)) (stores : g.tells → StoresPages g v.device) (most : AreCounts g v)
+    (known : worker < 8) (some : 0 < line) (has : HasLineOrNone v.flight worker line) (rose : FaultRose (counts_of g u.device) (counts_of g v.device)) (faults : FaultsStay u.flight v.flight) (lines : IsFlight (notes_fault g worker line v).flight) where
+  abbrev pub w : Core D
+  w = notes_fault g worker line v
 
-    in_v : worker < length v.flight
-    in_v = let eight = after.flight.eight in omega (arith, known, eight)
+  abbrev z : InFlight
+  z = record (line_of v.flight worker line) { fault = fault_sum (counts_of g v.device) }
 
-    own : of_worker w.flight worker ≡ z
-    own = own_with v.flight worker z in_v
+  in_v : worker < length v.flight
+  in_v = let eight = after.flight.eight in omega (arith, known, eight)
 
-    line_z : z.line ≡ line
-    line_z = ⊎_elim (λ is. ap (λ (x : InFlight). x.line) is.1) (λ is. ap (λ (x : InFlight). x.line) is.2 ∙ is.0) (line_cases v.flight worker line has)
+  own : of_worker w.flight worker ≡ z
+  own = own_with v.flight worker z in_v
 
-    positive : fault_sum (counts_of g v.device) ≢ 0
-    positive none = ⊎_elim (λ r. omega (arith, none, r)) (λ r. omega (arith, none, r)) rose
+  line_z : z.line ≡ line
+  line_z = ⊎_elim (λ is. ap (λ (x : InFlight). x.line) is.1) (λ is. ap (λ (x : InFlight). x.line) is.2 ∙ is.0) (line_cases v.flight worker line has)
 
-    pub stages_failed : StagesOn g worker line call u w stage.Fault
-    stages_failed = record {
-      most = p.most + 0;
-      goes = goes_then g u v w p.most 0 p.goes (step_goes g v w after volume (flight_step g v w.flight) refl (λ page_of_stamp tree runs. runs));
-      on = λ origin o h done s of. failure_noted g origin o h u v done s (p.on origin o h done s) (record { later = never_fall g p.most u v core p.goes; rose = rose; faults = faults }) worker line call known of has volume stores most lines;
-      others = λ x far. ap nameless_line (other_with v.flight worker x z far) ∙ p.others x far;
-      fault = ap (λ (x : InFlight). cond (x.line == line) (some_number x.fault) None) own ∙ (fault_at z line line_z ∙ some_of (fault_sum (counts_of g v.device)) positive);
-      room = λ no. absurd (cc no);
-      failed = λ same. rose;
-      lost = λ x f no. absurd (cc no);
-    }
+  positive : fault_sum (counts_of g v.device) ≢ 0
+  positive none = ⊎_elim (λ r. omega (arith, none, r)) (λ r. omega (arith, none, r)) rose
+
+  pub stages_noted : StagesOn g worker line call u w stage.Fault
+  stages_noted = record {
+    most = p.most + 0;
+    goes = goes_then g u v w p.most 0 p.goes (step_goes g v w after volume (flight_step g v w.flight) refl (λ page_of_stamp tree runs. runs));
+    on = λ origin o h done s of. failure_noted g origin o h u v done s (p.on origin o h done s of) (record { later = never_fall g p.most u v core p.goes; rose = rose; faults = faults }) worker line call known of has volume stores most lines;
+    others = λ x far. ap nameless_line (other_with v.flight worker x z far) ∙ p.others x far;
+    fault = ap (λ (x : InFlight). cond (x.line == line) (some_number x.fault) None) own ∙ (fault_at z line line_z ∙ some_of (fault_sum (counts_of g v.device)) positive);
+    room = λ no. absurd (cc no);
+    failed = λ same. rose;
+    lost = λ x f no. absurd (cc no);
+  }
+
+-- where no page was put in flight
+pub stages_failed : {D : Type 0} (g : Ghosts D) (worker line : ℕ) (call : Call) (u v : Core D) → PassesOn g worker line u v → IsCore g u → IsCore g v → IsVolumeShape (g.shape v.device) → (g.tells → StoresPages g v.device) → AreCounts g v
+    → worker < 8 → 0 < line → HasLineOrNone v.flight worker line → FaultRose (counts_of g u.device) (counts_of g v.device) → FaultsStay u.flight v.flight → IsFlight (notes_fault g worker line v).flight → StagesOn g worker line call u (notes_fault g worker line v) stage.Fault
+stages_failed g worker line call u v p core after volume stores most known some has rose faults lines =
+    stages_noted g worker line call u v stage.Whole (stages_whole g worker line call u v p) core after volume stores most known some has rose faults lines
+
+-- ---- how a staging ends that has reached the device
+
+module _ {D : Type 0} (g : Ghosts D) (worker line : ℕ) (call : Call) (u v : Core D) (answer : Stage) (p : StagesOn g worker line call u v answer) (core : IsCore g u) (after : IsCore g v) (volume : IsVolumeShape (g.shape v.device)) (stores : g.tells → StoresPages g v.device) (most : AreCounts g v)
+    (known : worker < 8) (some : 0 < line) (has : HasLineOrNone v.flight worker line) (faults : FaultsStay u.flight v.flight) (writes : u.stopped ≡ 0) where
+  pub stages_tried : (w : Core D) (result : Stage) → EndsTried g worker line answer v w result → StagesOn g worker line call u w result
+  stages_tried w result (inl e) = subst (λ (r : Stage). StagesOn g worker line call u w r) (sym e.0) (subst (λ (x : Core D). StagesOn g worker line call u x answer) (sym e.1) p)
+  stages_tried w result (inr e) =
+      subst (λ (r : Stage). StagesOn g worker line call u w r) (sym e.0)
+      (subst (λ (x : Core D). StagesOn g worker line call u x stage.Fault) (sym e.1)
+      (stages_noted g worker line call u v answer p core after volume stores most known some has (inr (p.goes.stops.some writes e.2).0) faults (subst (λ (x : Core D). IsFlight x.flight) e.1 e.3)))
 
 -- ---- one part after the other
 

@@ -58,6 +58,7 @@ module _ {D : Type 0} (g : Ghosts D) (origin : Core D) (o : Opening) (h : List E
     effects = s.effects ∙ ap saturated (sym (effects_more h e ∙ (ap (λ b. effects h + cond b 1 0) no_effect ∙ (omega arith))));
     since = s.since;
     next_stamp = s.next_stamp;
+    stamps_rise = s.stamps_rise;
     read_only = s.read_only;
     marks = λ x has. ⊎_elim (s.marks x)
         (λ is. subst (λ (y : Entry). IfSome (fault_of y.fault) (FaultReplyHasCause g.tells o (counts_of g v.device) y)) is (subst (λ (f : Option FaultReply). IfSome f (FaultReplyHasCause g.tells o (counts_of g v.device) e)) (sym no_fault) tt))
@@ -159,6 +160,7 @@ module _ {D : Type 0} (g : Ghosts D) (origin : Core D) (o : Opening) (h : List E
     effects = s.effects;
     since = later_then (opening_counts o) (counts_of g u.device) (counts_of g v.device) s.since later;
     next_stamp = paid;
+    stamps_rise = let was = s.stamps_rise in let up = a.stamps.never_falls in omega (arith, was, up);
     read_only = stopped_since (cases_eq u.stopped 0);
     marks = λ e has. mark_on e (fault_of e.fault) (s.marks e has);
     syncs = s.syncs;

@@ -1,4 +1,6 @@
+pub mod Examples
 pub mod Serving
+pub mod StagedPages
 pub mod Staging
 pub mod Standing
 pub mod Turns

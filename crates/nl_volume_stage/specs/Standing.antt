@@ -78,8 +78,8 @@ abbrev pub EachIsLine : List Line → Type 0
 EachIsLine lines = (l : Line) → members.Has lines l → IsLine l
 
 -- The volume is in order, and has answered the calls of the history since it was the origin, with which it was opened: it goes along their
--- run. It is read-only only where a write failed since. Each fault that was answered has its cause; each sync has made safe the calls
--- before it.
+-- run. Its next write sequence number has not fallen since. It is read-only only where a write failed since. Each fault that was answered
+-- has its cause; each sync has made safe the calls before it.
 pub record Serves {D : Type 0} (g : Ghosts D) (origin : Core D) (opening : Opening) (history : List Entry) (v : Core D) (done : ℕ) : Type 0 where
   pub few : opening.count ≤ top
   pub lines : EachIsLine opening.lines
@@ -90,6 +90,7 @@ pub record Serves {D : Type 0} (g : Ghosts D) (origin : Core D) (opening : Openi
   pub since : NeverFall (opening_counts opening) (counts_of g v.device)
   pub next_stamp : g.clock v.device < top → g.write_faults v.device < top
       → g.next_stamp v.device ≤ opening.next_stamp + (g.clock v.device - opening.clock) + (g.write_faults v.device - opening.write_faults)
+  pub stamps_rise : opening.next_stamp ≤ g.next_stamp v.device
   pub read_only : v.stopped ≢ 0
       → WriteFailed (opening_counts opening) (counts_of g v.device) × IsSumSince (opening_counts opening) (counts_of g v.device) v.stopped
   pub marks : (e : Entry) → members.Has history e → IfSome (fault_of e.fault) (FaultReplyHasCause g.tells opening (counts_of g v.device) e)

@@ -1,5 +1,5 @@
 ghost use Rattle.std.specs.Prelude.{◌≡◌, ◌≢◌, ◌⊎◌, ◌↔◌, ◌<◌, ◌^◌, ℕ, true, false, IsTrue};
-ghost use Rattle.nl_core.specs.Calls.{CommitsAll, FailureIsCounted};
+ghost use Rattle.nl_core.specs.Calls.{CommitsAll, CommitsNot, FailureIsCounted};
 ghost use Rattle.nl_core.specs.Core.{IsCore};
 ghost use Rattle.nl_core.specs.Goes.{PreservesVolume};
 
@@ -14,7 +14,9 @@ pub enum Last {
     Done,
     /// The volume cannot be written to.
     Left,
+    /// A page did not hold the write sequence number that was wanted.
     Lost,
+    /// An operation of the medium failed.
     Fault,
 }
 
@@ -29,6 +31,7 @@ pub fn commit_last<D: MovingPages>(core: &mut Core<D>, worn: bool) -> Last
     ensures commits { result ≡ Last.Done → (number : ℕ) × CommitsAll D.Counts core.old core.new number }
     ensures fault { FailureIsCounted D.Counts (result ≡ Last.Fault) core.old core.new }
     ensures lost { D.tells → result ≢ Last.Lost }
+    ensures meets { result ≡ Last.Lost → CommitsNot D.Counts core.old core.new × (D.tells → ⊥) }
 {
     if worn || core.stopped != 0 {
         return Last::Left;

@@ -6,6 +6,7 @@ mod closing;
 mod next;
 mod numbers;
 mod refusing;
+pub mod rows;
 mod staging;
 
 pub use closing::{Last, commit_last, is_fault, is_lost};

@@ -8,6 +8,7 @@ ghost use Rattle.nl_calls_steps.specs.Steps.{ReadsOn};
 ghost use Rattle.nl_field.specs.CrashStates.{Rose};
 ghost use Rattle.nl_flight.specs.Flight.{of_worker};
 ghost use Rattle.nl_tree.specs.Event.{is_whole, page_given};
+ghost use Rattle.nl_volume_stage.specs.StagedPages.{IsTagOfCall, IsTagOfNode, IsTagOfPath};
 ghost use Rattle.nl_volume_stage.specs.Staging.{IfPage, IsNextTag, IsNextAt, IsNextIn};
 ghost use Rattle.nl_calls_bytes.specs.Ranges.{from_of, len_of, path_of};
 
@@ -48,6 +49,7 @@ pub(crate) fn next_of<D: MovingPages>(core: &mut Core<D>, call: &Call, place: u3
     ensures same { ReadsOn D.Counts core.old core.new }
     ensures page { IfPage result (IsNextTag call.now place) }
     ensures left { IsNextIn D.Counts core.old (path_of call.now) (from_of call.now) (len_of call.now) place result }
+    ensures own { IfPage result (IsTagOfCall D.Counts core.old call.now) }
     ensures fault { result ≡ Next.Fault → Rose (D.read_faults core.old.device) (D.read_faults core.new.device) }
     ensures lost { (w : ℕ) (f : ℕ) → result ≡ Next.Lost w f → (f ≢ w) × (D.tells → ⊥) }
 {
@@ -72,6 +74,7 @@ fn next_in<D: MovingPages>(core: &mut Core<D>, path: &Path, from: u64, len: u64,
     ensures same { ReadsOn D.Counts core.old core.new }
     ensures page { IfPage result (λ tag. (tag.index ≡ div_ceil from 4096 + place) × IsTrue (is_whole from len tag.index)) }
     ensures left { IsNextIn D.Counts core.old path.now from len place result }
+    ensures own { IfPage result (IsTagOfPath D.Counts core.old path.now) }
     ensures fault { result ≡ Next.Fault → Rose (D.read_faults core.old.device) (D.read_faults core.new.device) }
     ensures lost { (w : ℕ) (f : ℕ) → result ≡ Next.Lost w f → (f ≢ w) × (D.tells → ⊥) }
 {
@@ -94,6 +97,7 @@ fn next_at<D: MovingPages>(core: &mut Core<D>, ino: u32, from: u64, len: u64, pl
     ensures same { ReadsOn D.Counts core.old core.new }
     ensures page { IfPage result (λ tag. (tag.index ≡ div_ceil from 4096 + place) × IsTrue (is_whole from len tag.index)) }
     ensures left { IsNextAt D.Counts core.old ino from len place result }
+    ensures own { IfPage result (IsTagOfNode D.Counts core.old ino) }
     ensures fault { result ≡ Next.Fault → Rose (D.read_faults core.old.device) (D.read_faults core.new.device) }
     ensures lost { (w : ℕ) (f : ℕ) → result ≡ Next.Lost w f → (f ≢ w) × (D.tells → ⊥) }
 {

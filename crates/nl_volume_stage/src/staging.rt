@@ -1,6 +1,7 @@
 ghost use Rattle.std.specs.Prelude.{◌≡◌, ◌≢◌, ◌⊎◌, ◌↔◌, ◌≤◌, ◌<◌, ◌^◌, length};
 ghost use Rattle.nl_core.specs.Programming.{HasLineOrNone};
 ghost use Rattle.nl_flight.specs.Flight.{of_worker};
+ghost use Rattle.nl_volume_stage.specs.StagedPages.{EndsTried, IsTagOfCall, KeepsLinePages, LeavesInFlight, StaysWritable};
 ghost use Rattle.nl_volume_stage.specs.Staging.{IsNextTag, PassesOn, StagesOn, RepresentsSome, RepresentsWithLine, TellsLeft, staged_indexes};
 
 use crate::next::{Next, fill_page, flying, next_of};
@@ -12,7 +13,8 @@ use nl_spec_commits::laws::device_stands;
 use nl_tree::{Call, Stage};
 
 /// Stages one whole page of a line ahead of its effect: it is programmed, and in flight from now on. `Stopped` comes exactly where the
-/// volume is read-only or worn. Pages in flight of another line of the worker are freed first. The page given has bytes of the call then.
+/// volume is read-only or worn. Pages in flight of another line of the worker are freed first. The page is one of the file to which the
+/// path of the call leads now. `Staged`, `Whole` and `Lost` come only where no write failed. The page given has bytes of the call then.
 pub fn stage_line<D: MovingPages>(
     core: &mut Core<D>,
     worker: u8,
@@ -26,6 +28,8 @@ pub fn stage_line<D: MovingPages>(
     ensures stages { StagesOn D.Counts worker line call.now core.old core.new result }
     ensures left { TellsLeft D.Counts worker line call.now core.old core.new result }
     ensures stopped { result ≡ Stage.Stopped ↔ (core.old.stopped ≢ 0) ⊎ (2 ^ 62 ≤ D.next_stamp core.old.device) }
+    ensures in_flight { LeavesInFlight D.Counts worker line (IsTagOfCall D.Counts core.old call.now) core.old core.new result }
+    ensures unfailed { result ≢ Stage.Fault → result ≢ Stage.Stopped → StaysWritable D.Counts core.old core.new }
 {
     leave_other(core, worker, line);
     if core.stopped != 0 || is_worn(core) {
@@ -51,6 +55,8 @@ fn stage_now<D: MovingPages>(
     ensures stages { StagesOn D.Counts worker line call.now core.old core.new result }
     ensures left { TellsLeft D.Counts worker line call.now core.old core.new result }
     ensures not_stopped { result ≢ Stage.Stopped }
+    ensures in_flight { LeavesInFlight D.Counts worker line (IsTagOfCall D.Counts core.old call.now) core.old core.new result }
+    ensures unfailed { result ≢ Stage.Fault → StaysWritable D.Counts core.old core.new }
 {
     device_stands(&core.device);
     let place = flying(&core.flight, worker);
@@ -87,6 +93,8 @@ fn stage_page<D: MovingPages>(
     ensures stages { StagesOn D.Counts worker line call.now core.old core.new result }
     ensures not_stopped { result ≢ Stage.Stopped }
     ensures not_whole { result ≢ Stage.Whole }
+    ensures in_flight { LeavesInFlight D.Counts worker line (λ owner. owner ≡ tag) core.old core.new result }
+    ensures unfailed { result ≢ Stage.Fault → StaysWritable D.Counts core.old core.new }
 {
     device_stands(&core.device);
     fill_page(page, call, tag.index);
@@ -94,14 +102,30 @@ fn stage_page<D: MovingPages>(
     device_stands(&core.device);
     counts(core);
     match programmed {
-        Programmed::InFlight => Stage::Staged,
+        Programmed::InFlight => end_tried(core, worker, line, Stage::Staged),
         Programmed::Stopped => unreachable!(),
-        Programmed::Lost { wanted, found } => Stage::Lost { wanted, found },
+        Programmed::Lost { wanted, found } => {
+            end_tried(core, worker, line, Stage::Lost { wanted, found })
+        }
         Programmed::Fault => {
             core.note_failure(worker, line);
             Stage::Fault
         }
     }
+}
+
+// The answer of a staging that has reached the device. A device may go on though a write failed on the way: then the volume cannot be
+// written to any more, and the line keeps that as its failure.
+fn end_tried<D: MovingPages>(core: &mut Core<D>, worker: u8, line: u32, answer: Stage) -> Stage
+    requires known { worker < 8 }
+    requires some { 0 < line }
+    ensures { EndsTried D.Counts worker line answer core.old core.new result }
+{
+    if core.stopped != 0 {
+        core.note_failure(worker, line);
+        return Stage::Fault;
+    }
+    answer
 }
 
 /// Frees pages in flight of another line of the worker.
@@ -114,6 +138,8 @@ pub fn leave_other<D: MovingPages>(core: &mut Core<D>, worker: u8, line: u32)
     ensures staged { staged_indexes core.new.flight worker line ≡ staged_indexes core.old.flight worker line }
     ensures stopped { core.new.stopped ≡ core.old.stopped }
     ensures stamp { D.next_stamp core.new.device ≡ D.next_stamp core.old.device }
+    ensures pages { KeepsLinePages worker line core.old.flight core.new.flight }
+    ensures write_faults { D.write_faults core.new.device ≡ D.write_faults core.old.device }
 {
     let now = core.flight.line(worker);
     if now != 0 && now != line {

@@ -1,4 +1,4 @@
-use Rattle.std.proofs.Common.{◌≡◌, inl, ◌∙◌, ℕ, List, [], ◌∷◌, None, Some, length, ap, arith, refl, subst, sym}
+use Rattle.std.proofs.Common.{◌≡◌, ◌*◌, inl, ◌∙◌, ℕ, List, [], ◌∷◌, None, Some, length, ap, arith, refl, subst, sym}
 use Rattle.nl_field.specs.Medium.{shape_of_image}
 use Rattle.nl_field.specs.Numbers.{ShapeBounds, shape_for}
 use Rattle.nl_field.specs.Page.{Image}
@@ -22,6 +22,7 @@ use Rattle.nl_core_open.proofs.Imaged.{consistent, counted, none_failed, over, p
 use Rattle.nl_core_open.proofs.NextNumber.{next_number_is}
 use Rattle.nl_core_open.proofs.OnlyRead.{Reads, device_read, then_read, was_read}
 use Rattle.nl_core_open.proofs.SeenWear.{greatest_is, least_is}
+use Rattle.nl_core_open.proofs.Spelled.{few_calls, next_small}
 use Rattle.nl_core_open.proofs.opening.open_formed.Goals as goal
 
 -- the numbers of an image are those of its medium
@@ -113,6 +114,29 @@ returns-in-Ok-clause-stands g c = λ tells.
       subst (λ n. ConsistentAs image n tree.0) count tree.1,
       subst (λ n. CoreRepresents G v (page_on image) (all_at n tree.0)) count (c.begin.ensures.stands tells image tree.0 it),
     )
+
+-- the super page spells the count, and the scanned pages their numbers, whatever the medium
+pub returns-in-Ok-clause-few : goal.returns-in-Ok-clause-few
+returns-in-Ok-clause-few g c =
+    let k = c.in-Ready-recover.ensures.walked.count in
+    let low = few_calls _ k.0 k.1 in
+    let is = k.2 in
+    let same = c.begin.ensures.begins.counts.0 in
+    omega (arith, low, is, same)
+
+pub returns-in-Ok-clause-behind : goal.returns-in-Ok-clause-behind
+returns-in-Ok-clause-behind g c =
+    let N = g.M.Nand in
+    let t = c.in-Ready.scan in
+    let e = c.in-Ready.ensures in
+    let next = c.begin.ensures.begins.medium.next_stamp ∙ (c.recover.ensures.device.medium.next_stamp ∙ e.started.stamp) in
+    let low = next_small ((N.geometry c.args.media).blocks * (N.geometry c.args.media).pages) t.seen e.fits.pages in
+    record {
+      table = t;
+      fits = e.fits;
+      next_is = next;
+      spelled = omega (arith, next, low);
+    }
 
 pub returns-in-Ok-clause-number : goal.returns-in-Ok-clause-number
 returns-in-Ok-clause-number g c = λ tells.

@@ -1,4 +1,4 @@
-use Rattle.std.proofs.Common.{◌≡◌, [], ap, sym, ◌∙◌}
+use Rattle.std.proofs.Common.{◌≡◌, [], ap, sym, ◌∙◌, arith}
 use Rattle.nl_device.specs.Medium.{medium_of}
 use Rattle.nl_field.specs.Medium.{shape_of_image}
 use Rattle.nl_field.specs.Numbers.{shape_for}
@@ -13,6 +13,8 @@ returns-in-Opened-clause-opened g c =
     let e = c.in-Opened.ensures in
     let image = g.M.Nand.contents c.args.media in
     let sound : g.M.Nand.tells → ConsistentAs image v.count (tree_of image) = λ t. let k = e.sound t in sound_as_it image v.count k.0 k.1 in
+    let next = e.behind.next_is in
+    let low = e.behind.spelled in
     let numbers = (e.stands (tree_of image) [] (λ l none. absurd none) sound).0.serves.core.formed.segments.numbers in
     record {
       tree = tree_of image;
@@ -21,7 +23,12 @@ returns-in-Opened-clause-opened g c =
           let here : v.device.shape ≡ shape_of_image (g.M.Nand.contents (medium_of v.device)) = numbers ∙ (λ j. shape_for (sym fit.blocks j) (sym fit.pages j)) in
           record { sound = sound t; shape = here ∙ ap shape_of_image (e.medium.same_contents t); next_stamp = e.next_stamp t });
       number = e.number;
+      few = e.few;
+      spelled = (omega (arith, next), low);
     }
+
+pub returns-in-Opened-clause-behind : goal.returns-in-Opened-clause-behind
+returns-in-Opened-clause-behind g c = c.in-Opened.ensures.behind
 
 pub returns-in-Damaged-clause-why : goal.returns-in-Damaged-clause-why
 returns-in-Damaged-clause-why g c t =

@@ -2,6 +2,7 @@ use Rattle.std.proofs.Common.{◌+◌, inl, inr, ⊎_elim, refl}
 use Rattle.std.proofs.lemmas.Bool.{cases_lt}
 use Rattle.nl_field.specs.Numbers.{max_file_size}
 use Rattle.nl_calls_files.proofs.Directories.{dir-kind}
+use Rattle.nl_volume_stage.proofs.Own.{generation_of}
 use Rattle.nl_volume_stage.proofs.next.next_at.Goals as goal
 
 pub returns-in-Some-clause-left : goal.returns-in-Some-clause-left
@@ -12,3 +13,6 @@ returns-in-None-clause-left g c = ⊎_elim (λ far. inr (inl far)) (λ within. i
 
 pub returns-in_default-clause-left : goal.returns-in_default-clause-left
 returns-in_default-clause-left g c = inl (c.in-Ok.rec, c.in-Ok.ensures.node.before, dir-kind c.in-Ok.rec.kind c.in_default.not-File c.in-Ok.ensures.node.before.used)
+
+pub returns-in-Some-clause-own : goal.returns-in-Some-clause-own
+returns-in-Some-clause-own g c = record { ino = refl; generation = generation_of g.D.Counts c.args.core.now c.args.ino c.in-Ok.rec c.in-Ok.ensures.node.before }

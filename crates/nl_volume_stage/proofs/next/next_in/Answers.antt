@@ -6,6 +6,7 @@ use Rattle.nl_calls_steps.specs.Finding.{nodes_of}
 use Rattle.nl_calls_steps.proofs.OnlyReads.{still-used}
 use Rattle.nl_calls_steps.proofs.ReadCores.{reads-then}
 use Rattle.nl_volume_stage.proofs.Nexts.{next_on, none_missing, none_refused}
+use Rattle.nl_volume_stage.proofs.Own.{own_page}
 use Rattle.nl_volume_stage.proofs.next.next_in.Goals as goal
 
 pub next_at-requires-clause-used : goal.next_at-requires-clause-used
@@ -32,3 +33,7 @@ returns-in-Missing-clause-left g c =
     let path = c.args.path.now in
     inl (⊎_elim (λ is. none_missing c.looks_in_tree.ensures G u path (subst (Looks (nodes_of G u) path) is c.look_up.ensures.answer))
     (λ is. none_refused c.looks_in_tree.ensures G u path is.0 (subst (Looks (nodes_of G u) path) is.1 c.look_up.ensures.answer)) c.in-Missing.is)
+
+pub returns-in-At-clause-own : goal.returns-in-At-clause-own
+returns-in-At-clause-own g c =
+    own_page g.D.Counts c.args.core.now c.look_up.new.core c.args.path.now c.device_stands.ensures.volume c.look_up.ensures.same c.in-At.ino c.in-At.ensures.answer c.next_at.result c.next_at.ensures.own

@@ -4,6 +4,7 @@ use Rattle.std.specs.Prelude.{IsTrue}
 use Rattle.nl_tree.specs.Event.{is_whole}
 use Rattle.std.proofs.Common.{inr}
 use Rattle.nl_calls_bytes.specs.Ranges.{from_of, len_of, path_of}
+use Rattle.nl_volume_stage.specs.StagedPages.{IsTagOfCall}
 use Rattle.nl_volume_stage.specs.Staging.{IfPage, IsNextTag, IsNextIn}
 use Rattle.nl_volume_stage.proofs.Left.{none_whole}
 use Rattle.nl_volume_stage.proofs.Given.{if_page, next_fill, next_write}
@@ -31,6 +32,7 @@ returns-in_default g c =
       core = c.requires.core;
       same = reads-none G c.args.core.now c.requires.core;
       page = tt;
+      own = tt;
       left = inr (inr (none_whole c.args.call.now c.args.place c.in_default.not-Write c.in_default.not-Fill));
       fault = λ no. absurd (cc no);
       lost = λ w f no. absurd (cc no);
@@ -49,3 +51,9 @@ returns-in-Fill-clause-left g c =
     let w = c.in-Fill in
     subst (λ call. IsNextIn G c.args.core.now (path_of call) (from_of call) (len_of call) c.args.place c.next_in-in-Fill.result) (sym w.is)
     (subst (λ len. IsNextIn G c.args.core.now w.path w.from len c.args.place c.next_in-in-Fill.result) c.from.ensures c.next_in-in-Fill.ensures.left)
+
+pub returns-in-Write-clause-own : goal.returns-in-Write-clause-own
+returns-in-Write-clause-own g c = subst (λ call. IfPage c.next_in.result (IsTagOfCall g.D.Counts c.args.core.now call)) (sym c.in-Write.is) c.next_in.ensures.own
+
+pub returns-in-Fill-clause-own : goal.returns-in-Fill-clause-own
+returns-in-Fill-clause-own g c = subst (λ call. IfPage c.next_in-in-Fill.result (IsTagOfCall g.D.Counts c.args.core.now call)) (sym c.in-Fill.is) c.next_in-in-Fill.ensures.own

@@ -1,5 +1,6 @@
 use Rattle.std.proofs.Common.{◌∙◌, inl, inr, ⊎_elim, refl, sym}
 use Rattle.nl_volume_stage.proofs.Nexts.{staged_dropped}
+use Rattle.nl_volume_stage.proofs.Pages.{dropped_pages, own_pages}
 use Rattle.nl_volume_stage.proofs.Stages.{passes_dropped, passes_none}
 use Rattle.nl_volume_stage.proofs.staging.leave_other.Goals as goal
 
@@ -27,3 +28,18 @@ returns-then-now-line-clause-staged g c =
 
 pub returns-else-now-ne0-clause-staged : goal.returns-else-now-ne0-clause-staged
 returns-else-now-ne0-clause-staged g c = refl
+
+pub returns-then-now-line-clause-pages : goal.returns-then-now-line-clause-pages
+returns-then-now-line-clause-pages g c =
+    let G = g.D.Counts in
+    let u = c.args.core.now in
+    dropped_pages G c.args.worker c.args.line u c.drop_line.new.self c.requires.stands.4.serves.core c.requires.known (λ same. c.if-now-line.true (c.line-now.ensures.line ∙ same)) c.drop_line.ensures.dropped
+
+pub returns-else-now-ne0-clause-pages : goal.returns-else-now-ne0-clause-pages
+returns-else-now-ne0-clause-pages g c =
+    let u = c.args.core.now in
+    own_pages u.flight c.args.worker c.args.line c.requires.some (⊎_elim (λ is. inr (sym c.line-now.ensures.line ∙ is.1)) (λ none. inl (sym c.line-now.ensures.line ∙ none)) c.else-now-ne0.either)
+    (λ none. (c.requires.stands.4.serves.core.flight.idle c.args.worker none).0)
+
+pub returns-then-now-line-clause-write_faults : goal.returns-then-now-line-clause-write_faults
+returns-then-now-line-clause-write_faults g c = c.drop_line.ensures.dropped.frees.kept.write_faults

@@ -1,6 +1,10 @@
 use Rattle.std.proofs.Common.{◌∙◌, ◌^◌, ⊎_elim, inl, inr, refl, sym, arith}
 use Rattle.std.proofs.lemmas.Bool.{cases_lt}
+use Rattle.nl_calls_bytes.specs.Ranges.{path_of}
+use Rattle.nl_volume_stage.specs.StagedPages.{IsTagOfCall}
 use Rattle.nl_volume_stage.proofs.Nexts.{tells_through}
+use Rattle.nl_volume_stage.proofs.Own.{own_before}
+use Rattle.nl_volume_stage.proofs.Pages.{leaves_from, own_pages, writable_from}
 use Rattle.nl_volume_stage.proofs.Stages.{passes_then, stages_stopped}
 use Rattle.nl_volume_stage.proofs.staging.stage_line.Goals as goal
 use Rattle.nl_volume_stage.proofs.staging.stage_line.Goals.{then-core-ne0-via-then-core-ne0, then-core-ne0-via-else-core-ne0+then-is_worn}
@@ -44,3 +48,27 @@ pub returns-clause-left : goal.returns-clause-left
 returns-clause-left g c =
     tells_through g.D.Counts c.args.worker c.args.line c.args.call.now c.args.core.now c.leave_other.new.core c.stage_now.new.core c.stage_now.result
     c.leave_other.ensures.passes c.leave_other.ensures.staged c.stage_now.ensures.left
+
+pub returns-then-core-ne0-clause-in_flight : goal.returns-then-core-ne0-clause-in_flight
+returns-then-core-ne0-clause-in_flight g c = record { line_is = c.leave_other.ensures.line; pages = c.leave_other.ensures.pages }
+
+pub returns-clause-in_flight : goal.returns-clause-in_flight
+returns-clause-in_flight g c =
+    let G = g.D.Counts in
+    let s = c.requires.stands in
+    let u = c.args.core.now in
+    let v = c.leave_other.new.core in
+    let call = c.args.call.now in
+    let p = c.leave_other.ensures.passes in
+    let t = p.on s.0 s.1 s.2 s.3 s.4 in
+    let stamp = c.leave_other.ensures.stamp in
+    leaves_from G c.args.worker c.args.line (IsTagOfCall G v call) (IsTagOfCall G u call) u v c.stage_now.new.core (λ tag own. own_before G p.most u v p.goes (path_of call) tag own)
+    (sym (own_pages v.flight c.args.worker c.args.line c.requires.some c.leave_other.ensures.line (λ none. (t.serves.core.flight.idle c.args.worker none).0)) ∙ c.leave_other.ensures.pages)
+    (omega (arith, stamp)) c.stage_now.result c.stage_now.ensures.in_flight
+
+pub returns-then-core-ne0-clause-unfailed : goal.returns-then-core-ne0-clause-unfailed
+returns-then-core-ne0-clause-unfailed g c far off = absurd (off refl)
+
+pub returns-clause-unfailed : goal.returns-clause-unfailed
+returns-clause-unfailed g c far off =
+    writable_from g.D.Counts c.args.core.now c.leave_other.new.core c.stage_now.new.core c.leave_other.ensures.write_faults (c.stage_now.ensures.unfailed far)

@@ -1,13 +1,16 @@
-use Rattle.std.proofs.Common.{inl, refl, sym, subst, arith}
+use Rattle.std.proofs.Common.{◌≡◌, inl, refl, sym, subst, arith}
+use Rattle.nl_field.specs.declared.pointer.Tag.{Tag}
 use Rattle.nl_flight.specs.Flight.{IsFlight}
 use Rattle.nl_core.specs.declared.state.Core.{Core}
 use Rattle.nl_calls_bytes.specs.Ranges.{from_of, len_of, path_of}
 use Rattle.nl_tree.specs.declared.turn.Stage.TheVariants as stage
+use Rattle.nl_volume_stage.specs.StagedPages.{IsTagOfCall}
 use Rattle.nl_volume_stage.specs.Staging.{IsNextTag, IsNextIn, StagesOn, TellsLeft}
 use Rattle.nl_volume_stage.specs.declared.next.Next.TheVariants as next
 use Rattle.nl_volume_stage.proofs.Few.{few_staged}
 use Rattle.nl_volume_stage.proofs.Flights.{faults_on}
 use Rattle.nl_volume_stage.proofs.Nexts.{tells_page, tells_whole}
+use Rattle.nl_volume_stage.proofs.Pages.{read_failed, read_leaves, read_lost, read_stays, read_whole, read_writable}
 use Rattle.nl_volume_stage.proofs.Stages.{keeps_line, passes_reads, passes_then, same_lines, stages_failed, stages_lost, stages_whole}
 use Rattle.nl_volume_stage.proofs.staging.stage_now.Goals as goal
 
@@ -118,3 +121,47 @@ returns-in-Fault-clause-left g c =
     let G = g.D.Counts in
     subst (λ (x : Core g.row.D.Denot). TellsLeft G c.args.worker c.args.line c.args.call.now c.args.core.now x stage.Fault) (sym c.note_failure.ensures.noted)
     (λ tells page_of_stamp tree runs none. c.in-Fault.ensures.fault refl)
+
+pub returns-in-Page-clause-in_flight : goal.returns-in-Page-clause-in_flight
+returns-in-Page-clause-in_flight g c =
+    let G = g.D.Counts in
+    let u = c.args.core.now in
+    let v = c.next_of-next.new.core in
+    let e = c.in-Page.ensures in
+    let call = c.args.call.now in
+    read_leaves G c.args.worker c.args.line u v e.same (λ (tag : Tag). tag ≡ c.in-Page.tag) (IsTagOfCall G u call) (λ tag is. subst (IsTagOfCall G u call) (sym is) e.own)
+    c.stage_page.new.core c.stage_page.result c.stage_page.ensures.in_flight
+
+pub returns-in-Whole-clause-in_flight : goal.returns-in-Whole-clause-in_flight
+returns-in-Whole-clause-in_flight g c =
+    let G = g.D.Counts in
+    let u = c.args.core.now in
+    read_whole G c.args.worker c.args.line u c.next_of-next.new.core c.in-Whole.ensures.same (IsTagOfCall G u c.args.call.now) c.requires.some c.requires.stands.4.serves.core c.requires.line
+
+pub returns-in-Lost-clause-in_flight : goal.returns-in-Lost-clause-in_flight
+returns-in-Lost-clause-in_flight g c =
+    let G = g.D.Counts in
+    let u = c.args.core.now in
+    read_lost G c.args.worker c.args.line u c.next_of-next.new.core c.in-Lost.ensures.same (IsTagOfCall G u c.args.call.now) c.requires.some c.requires.stands.4.serves.core c.requires.line
+    c.in-Lost.wanted c.in-Lost.found
+
+pub returns-in-Fault-clause-in_flight : goal.returns-in-Fault-clause-in_flight
+returns-in-Fault-clause-in_flight g c =
+    let G = g.D.Counts in
+    let u = c.args.core.now in
+    let e = c.in-Fault.ensures in
+    read_failed G c.args.worker c.args.line u c.next_of-next.new.core e.same (IsTagOfCall G u c.args.call.now) c.requires.some c.requires.stands.4.serves.core c.requires.line
+    e.core c.requires.known _ c.note_failure.ensures.noted
+
+pub returns-in-Page-clause-unfailed : goal.returns-in-Page-clause-unfailed
+returns-in-Page-clause-unfailed g c far =
+    read_writable g.D.Counts c.args.worker c.args.line c.args.core.now c.next_of-next.new.core c.in-Page.ensures.same c.stage_page.new.core (c.stage_page.ensures.unfailed far)
+
+pub returns-in-Whole-clause-unfailed : goal.returns-in-Whole-clause-unfailed
+returns-in-Whole-clause-unfailed g c far = read_stays g.D.Counts c.args.worker c.args.line c.args.core.now c.next_of-next.new.core c.in-Whole.ensures.same c.requires.writes
+
+pub returns-in-Lost-clause-unfailed : goal.returns-in-Lost-clause-unfailed
+returns-in-Lost-clause-unfailed g c far = read_stays g.D.Counts c.args.worker c.args.line c.args.core.now c.next_of-next.new.core c.in-Lost.ensures.same c.requires.writes
+
+pub returns-in-Fault-clause-unfailed : goal.returns-in-Fault-clause-unfailed
+returns-in-Fault-clause-unfailed g c far = absurd (far refl)

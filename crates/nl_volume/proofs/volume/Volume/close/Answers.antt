@@ -1,6 +1,6 @@
-use Rattle.std.proofs.Common.{◌⊎◌, ◌+◌, ◌^◌, ◌∙◌, ⊎_elim, inl, inr, refl, sym, ap, subst}
+use Rattle.std.proofs.Common.{◌≤◌, ◌⊎◌, ◌+◌, ◌^◌, ◌∙◌, ⊎_elim, inl, inr, refl, sym, ap, subst, arith}
 use Rattle.nl_device.specs.contracts.counts.DeviceCounts.TheImpl.{ghosts}
-use Rattle.std.proofs.lemmas.Bool.{cases_lt}
+use Rattle.std.proofs.lemmas.Bool.{cases_eq, cases_lt}
 use Rattle.nl_field.specs.CrashStates.{Rose}
 use Rattle.nl_tree.specs.Causes.{FaultRose}
 use Rattle.nl_device.proofs.Forms.{shape_is}
@@ -54,6 +54,21 @@ returns-clause-fault g c is =
 pub returns-clause-lost : goal.returns-clause-lost
 returns-clause-lost g c tells = false_of c.is_lost.result (λ is. c.commit_last-last.ensures.lost tells (c.is_lost.ensures.0 is))
 
+-- exactly where the commit answered so
+pub returns-clause-meets : goal.returns-clause-meets
+returns-clause-meets g c is =
+    let u = c.args.self.core in
+    let e = c.commit_last-last.ensures in
+    let at = c.is_lost.ensures.0 is in
+    let k = e.meets at in
+    record {
+      writes = ⊎_elim (λ on. on) (λ off. absurd (cc (sym at ∙ e.why.1 (inr off)))) (cases_eq u.stopped 0);
+      unworn = false_of c.worn-worn.result (λ w. cc (sym at ∙ e.why.1 (inl w)));
+      no_fault = false_of c.is_fault.result (λ t. cc (sym at ∙ c.is_fault.ensures.0 t));
+      not_done = (c.commit_last-last.new.core, record { goes = e.goes; medium = c.into_media.ensures }, k.0);
+      untold = k.1;
+    }
+
 pub returns-clause-ends : goal.returns-clause-ends
 returns-clause-ends g c v o h s young k none =
     let G = ghosts g.row.M g.M.Nand g.M.Nand-dict in
@@ -88,3 +103,6 @@ returns-clause-ends_well g c v o h s young none unworn =
       none_lost = false_of c.is_lost.result (λ t. e.lost young.told (c.is_lost.ensures.0 t));
     })
     (λ r. none_failed G v.core o h u last c.args.self.done s.0 e.goes none_since (inr (subst (λ m. Rose (g.M.Nand.write_faults u.device.media) (g.M.Nand.write_faults m)) is r)))
+
+pub returns-clause-used_up : goal.returns-clause-used_up
+returns-clause-used_up g c v o h s high = let up : o.next_stamp ≤ c.args.self.core.device.next = s.0.serves.stamps_rise in c.worn-worn.ensures.1 (omega (arith, high, up))

@@ -2,7 +2,7 @@ use Rattle.std.proofs.Common.{◌≡◌, ◌≢◌, ℕ, ◌∙◌, ◌≤◌, �
 use Rattle.nl_device.specs.contracts.counts.DeviceCounts.TheImpl.{ghosts}
 use Rattle.nl_device.specs.declared.device.Device.{Device}
 use Rattle.nl_tree.specs.Causes.{FaultIsDue, NeverFall}
-use Rattle.nl_calls.specs.Answering.{pages_of_files}
+use Rattle.nl_calls.specs.Answering.{EndsLine, pages_of_files}
 use Rattle.nl_core.specs.declared.state.Core.{Core}
 use Rattle.nl_spec_crashes.specs.Effects.{counted}
 use Rattle.nl_turns.specs.Served.{FaultHasCause, StaysReadOnly, effect_entry}
@@ -53,6 +53,10 @@ returns-clause-less g c =
     let w = c.answer-reply.new.core in
     let x = c.answer-reply.ensures.answers in
     subst (λ (y : Core (Device g.row.M.Denot)). (k l : ℕ) → k ≢ c.args.worker → to_stage_of y.flight k l ≤ to_stage_of u.flight k l) (sym c.count_call.ensures) (line_less G u w c.args.worker c.args.line c.args.call.now c.answer-reply.result.reply c.answer-reply.new.out c.answer-reply.result.files x)
+
+pub returns-clause-ended : goal.returns-clause-ended
+returns-clause-ended g c =
+    subst (λ (y : Core (Device g.row.M.Denot)). EndsLine c.args.worker c.args.self.now.core.flight y.flight) (sym c.count_call.ensures) c.answer-reply.ensures.answers.ended
 
 pub returns-clause-read_only : goal.returns-clause-read_only
 returns-clause-read_only g c =

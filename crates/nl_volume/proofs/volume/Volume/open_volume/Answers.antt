@@ -37,6 +37,12 @@ returns-in-Ready-clause-next_stamp g c tells = c.in-Ready.ensures.next_stamp tel
 pub returns-in-Ready-clause-number : goal.returns-in-Ready-clause-number
 returns-in-Ready-clause-number g c tells = c.in-Ready.ensures.number tells
 
+pub returns-in-Ready-clause-few : goal.returns-in-Ready-clause-few
+returns-in-Ready-clause-few g c = c.in-Ready.ensures.few
+
+pub returns-in-Ready-clause-behind : goal.returns-in-Ready-clause-behind
+returns-in-Ready-clause-behind g c = c.in-Ready.ensures.behind
+
 pub returns-in-Ready-clause-pairs : goal.returns-in-Ready-clause-pairs
 returns-in-Ready-clause-pairs g c tells = c.in-Ready.ensures.pairs tells
 

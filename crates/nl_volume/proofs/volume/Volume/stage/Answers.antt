@@ -68,3 +68,6 @@ returns-clause-fault g c =
     let w = c.stage_line.new.core in
     let x = c.stage_line.ensures.stages in
     staged_failed G c.args.worker c.args.line c.args.call.now u w c.stage_line.result r.3.0.serves.core x
+
+pub returns-clause-others : goal.returns-clause-others
+returns-clause-others g c = c.stage_line.ensures.stages.others
