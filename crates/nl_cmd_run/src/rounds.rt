@@ -1,4 +1,4 @@
-ghost use Rattle.std.specs.Prelude.{◌≡◌, ◌+◌, [], true, length, IfErr, IfOk};
+ghost use Rattle.std.specs.Prelude.{◌≡◌, ◌||◌, ◌+◌, [], true, length, IfErr, IfOk};
 ghost use Rattle.nl_device.specs.Medium.{medium_of};
 ghost use Rattle.nl_core_open.specs.Opening.{OnlyReadsMedium};
 ghost use Rattle.nl_spec_image.specs.Stands.{ConsistentAs};
@@ -10,9 +10,12 @@ ghost use Rattle.nl_spec_headline.specs.Course.{Course};
 ghost use Rattle.nl_spec_headline.specs.Streams.{medium_seen, stops_within};
 ghost use Rattle.nl_volume.specs.Opened.{IsReason, medium_in};
 ghost use Rattle.nl_cmd_course.specs.Rounds.{LinesRan};
+ghost use Rattle.nl_cmd_run.specs.Closing.{TellsClosing};
 
 use crate::charging::charges_of;
 use nl_cmd_course::{Charges, Tables};
+use nl_device::Device;
+use nl_iface::Counts;
 use nl_nand::Nand;
 use nl_tree::Lines;
 use nl_turns::{Kept, TurnSeat, Turns};
@@ -38,8 +41,8 @@ pub struct Ran<M: Nand> {
 }
 
 /// Opens the volume of a medium, runs the lines on it in turns of a lock, and closes it. The sentences of the headline hold of the course
-/// that the answers in the table are of, of which there is one for each line. Or no volume was opened, or memory was wanting for the lock:
-/// then the medium was only read.
+/// that the answers in the table are of, of which there is one for each line. A page is told as lost exactly where a turn that stages or does
+/// a background task met one, or closing did. Or no volume was opened, or memory was wanting for the lock: then the medium was only read.
 pub fn run_lines<Rt: Threads + Wait + Sync, M: Nand + Send, G: Gate + Sync>(
     rt: &Rt,
     alloc: Global,
@@ -54,6 +57,7 @@ pub fn run_lines<Rt: Threads + Wait + Sync, M: Nand + Send, G: Gate + Sync>(
         tables.new.answers.rows r.lost r.worn r.charges course) }
     ensures rows { IfOk result (λ r. length tables.new.answers.rows ≡ length lines.now) }
     ensures lost { IfOk result (λ r. tables.new.answers.lost ≡ true → r.lost ≡ true) }
+    ensures closing { IfOk result (λ r. TellsClosing ⟦<Device<M> as Counts>⟧ M.Nand lines.now r) }
     ensures lists { (tables.new.order ≡ tables.old.order) × (tables.new.syncs ≡ tables.old.syncs) }
     ensures why { IfErr result (λ why. IsReason M.tells M.contents M.read_faults media why) }
     ensures left { IfErr result (λ why. OnlyReadsMedium M.tells M.contents M.clock M.write_faults M.left media (medium_in why)) }
@@ -87,6 +91,7 @@ fn run_opened<Rt: Threads + Wait + Sync, M: Nand + Send, G: Gate + Sync>(
         (medium_seen M.Nand r.media)
         tables.new.answers.rows r.lost r.worn r.charges course) }
     ensures lost { IfOk result (λ r. tables.new.answers.lost ≡ true → r.lost ≡ true) }
+    ensures closing { IfOk result (λ r. TellsClosing ⟦<Device<M> as Counts>⟧ M.Nand lines.now r) }
     ensures lists { (tables.new.order ≡ tables.old.order) × (tables.new.syncs ≡ tables.old.syncs) }
     ensures memory { IfErr result (λ v. v ≡ volume) }
 {
@@ -113,10 +118,17 @@ fn run_opened<Rt: Threads + Wait + Sync, M: Nand + Send, G: Gate + Sync>(
     Ok(Ran {
         media: closed.media,
         count,
-        lost: closed.lost || tables.answers.lost(),
+        lost: any_lost(closed.lost, tables.answers.lost()),
         worn: closed.worn,
         charges,
     })
+}
+
+// Whether closing lost a page, or a turn did.
+fn any_lost(at_closing: bool, in_turns: bool) -> bool
+    ensures { result ≡ at_closing || in_turns }
+{
+    at_closing || in_turns
 }
 
 // The lock over a volume, which stands for the lines from the tree of its image, and its first seat. The volume comes back for want of

@@ -48,6 +48,9 @@ returns-in-Ok-run_opened-clause-ran g c =
           r.2,
     )
 
+pub returns-in-Ok-run_opened-clause-closing : goal.returns-in-Ok-run_opened-clause-closing
+returns-in-Ok-run_opened-clause-closing g c = c.in-Ok-run_opened.ensures.closing
+
 pub returns-in-Ok-run_opened-clause-rows : goal.returns-in-Ok-run_opened-clause-rows
 returns-in-Ok-run_opened-clause-rows g c =
     let m = g.M.Nand in

@@ -1,4 +1,4 @@
-use Rattle.std.proofs.Common.{◌≡◌, ◌∙◌, ◌≤◌, ap, refl, subst, arith}
+use Rattle.std.proofs.Common.{◌≡◌, ◌∙◌, ◌||◌, ◌≤◌, Bool, true, false, ap, refl, subst, arith}
 use Rattle.nl_calls.specs.Answering.{pages_of_files}
 use Rattle.nl_device.specs.Medium.{medium_of}
 use Rattle.nl_device.specs.contracts.counts.DeviceCounts.TheImpl.{ghosts}
@@ -13,7 +13,6 @@ use Rattle.nl_volume_stage.specs.Standing.{RepresentsHistory}
 use Rattle.nl_volume.specs.declared.volume.Volume.{Volume}
 use Rattle.nl_cmd_course.specs.Rounds.{course_of}
 use Rattle.nl_cmd_run.proofs.Running.{rounds_and_end}
-use Rattle.nl_cmd_run.proofs.rounds.run_opened.Goals.{else-closed, then-closed}
 use Rattle.nl_cmd_run.proofs.rounds.run_opened.Goals as goal
 
 pub close-closed-requires : goal.close-closed-requires
@@ -28,7 +27,13 @@ close-closed-requires g c =
     )
 
 pub returns-clause-lost : goal.returns-clause-lost
-returns-clause-lost g c is = elim c.if-closed.branch [ then-closed w ↦ w.result-is ∙ w.if-closed.true | else-closed w ↦ w.result-is ∙ (w.lost.ensures ∙ is) ]
+returns-clause-lost g c is =
+    let closing = c.close-closed.result.lost in
+    c.any_lost.ensures ∙ (ap (λ (b : Bool). closing || b) (c.lost.ensures ∙ is) ∙ or_true closing)
+  where
+    or_true : (b : Bool) → (b || true) ≡ true
+    or_true true = refl
+    or_true false = refl
 
 pub returns-clause-ran : goal.returns-clause-ran
 returns-clause-ran g c =
@@ -60,10 +65,39 @@ returns-clause-ran g c =
       rounds_and_end G v0 v last.done opening.0 c.args.lines.now c.in-Ok.made.1 after rows opening.2 c.as_slice-lines.ensures.each ran stands.0
           (CrashesSafely ConsistentAs (λ m i. N.left old m i) (λ m i. N.left media m i) (N.clock old) (N.clock media))
           (medium (N.geometry old) (N.contents old) (N.clock old) (N.read_faults old) (N.write_faults old)) (medium (N.geometry media) (N.contents media) (N.clock media) (N.read_faults media) (N.write_faults media))
-          c.if-closed.result c.close-closed.result.worn c.charges_of-charges.result refl e.counts few writes c.requires.opened opening.1
+          c.any_lost.result c.close-closed.result.worn c.charges_of-charges.result refl e.counts few writes c.requires.opened opening.1
           (λ young. e.stops c.args.volume o h stands young)
           (λ young none unworn. e.ends_well c.args.volume o h stands young none unworn)
-          (λ t. elim c.if-closed.branch [ then-closed w ↦ w.result-is ∙ e.lost t | else-closed w ↦ w.result-is ∙ (w.lost.ensures ∙ c.run_rounds.ensures.lost t) ])
+          (λ t. c.any_lost.ensures ∙ (λ k. e.lost t k || (c.lost.ensures ∙ c.run_rounds.ensures.lost t) k))
           e.worn.0
           (λ page_of_stamp tree runs. let k = c.report.ensures.charges page_of_stamp tree runs in record { pages = told.pages ∙ k.pages; nodes = told.nodes ∙ k.nodes; meta = told.meta ∙ k.meta }),
     )
+
+-- the history is that of the lock, and the closing that of the volume which it gave back
+pub returns-clause-closing : goal.returns-clause-closing
+returns-clause-closing g c =
+    let G = ghosts g.row.M g.M.Nand g.M.Nand-dict in
+    let v0 = c.args.volume.core in
+    let opening = c.in-Ok.ensures.opening in
+    let after = c.run_rounds.new.seat in
+    let last = c.close-volume.result in
+    let closed = c.close-closed.result in
+    let e = c.close-closed.ensures in
+    let h = entries after.seen in
+    let stands = subst (λ (x : Volume _ × Opening). RepresentsHistory G x.0.core x.1 h last.core last.done × (last.files ≡ pages_of_files G last.core))
+    (λ k. (c.in-Ok.ensures.lock.2 k, (ap (λ (z : SeatState). z.opening) c.run_rounds.ensures.ran.same ∙ opening.2) k)) c.close-volume.ensures in
+    record {
+      origin = v0;
+      opening = opening_of G v0 opening.0 c.args.lines.now;
+      history = h;
+      core = last.core;
+      done = last.done;
+      stands = stands.0;
+      lines_are = refl;
+      count_is = c.calls-count.ensures;
+      closed = closed;
+      closes = record { commits = e.commits; fault = e.fault; meets = e.meets; worn = e.worn };
+      media_is = refl;
+      worn_is = refl;
+      lost_is = c.any_lost.ensures ∙ ap (λ (b : Bool). closed.lost || b) (c.lost.ensures ∙ c.run_rounds.ensures.found);
+    }
