@@ -1,14 +1,16 @@
 -- A core that is begun over a device on which no page of a file is live.
-use Rattle.std.proofs.Common.{◌≡◌, ◌≢◌, ℕ, ◌+◌, ◌*◌, ◌<◌, ◌≤◌, List, [], ◌∷◌, map, length, Option, Some, None, IsSome, refl, sym, ap, subst, ◌∙◌, arith}
+use Rattle.std.proofs.Common.{◌≡◌, ℕ, ◌+◌, ◌*◌, ◌<◌, ◌≤◌, List, [], ◌∷◌, map, length, None, refl, sym, ap, subst, ◌∙◌, arith}
 use Rattle.std.specs.Prelude.{is_some}
 use Rattle.std.proofs.lemmas.Option.{none-some}
 use Rattle.nl_field.specs.CrashStates.{top}
+use Rattle.nl_field.specs.Members as members
 use Rattle.nl_field.specs.PointerItems.{PointerItems}
 use Rattle.nl_field.specs.Numbers.{ShapeBounds}
 use Rattle.nl_field.specs.declared.pointer.Pointer.{Pointer}
 use Rattle.nl_field.specs.declared.pointer.Tag.{Tag}
 use Rattle.nl_field.specs.declared.seen.Seen.{Seen}
 use Rattle.nl_field.specs.declared.shape.Shape.{Shape}
+use Rattle.nl_tree.specs.Tree.{empty_tree}
 use Rattle.nl_flight.specs.Flight.{InFlight, IsFlight, carried, nothing}
 use Rattle.nl_spec_holders.specs.Opening.{OpensHolding}
 use Rattle.nl_iface.specs.Device.{IsVolumeShape}
@@ -16,15 +18,16 @@ use Rattle.nl_iface.specs.Holders.{tagged, times}
 use Rattle.nl_iface.specs.Moves.{Retains}
 use Rattle.nl_iface.specs.Names.{Has, IsNames, IsTableOfNames, led}
 use Rattle.nl_iface.specs.Space.{CanLand}
-use Rattle.nl_iface.specs.Stored.{NoneFailed}
 use Rattle.nl_iface.specs.declared.Callback.{Callback}
 use Rattle.nl_iface.specs.declared.counts.Counts.{Ghosts}
 use Rattle.nl_journal.specs.Committing.{committed_on}
 use Rattle.nl_journal.specs.Outcomes.{IsHome}
+use Rattle.nl_meta.specs.Consistent.{RightFor}
 use Rattle.nl_meta.specs.Nodes.{Held, held_in}
 use Rattle.nl_meta.specs.PointerLists.{with_tag}
 use Rattle.nl_meta_running.specs.Running.{running_on}
 use Rattle.nl_meta_running.proofs.Holds.{bounds-of}
+use Rattle.nl_spec_image.proofs.EmptyTree.{empty_is_tree, no_data_in}
 use Rattle.nl_journal_commit.specs.Completing.{AwaitsCommitPage}
 use Rattle.nl_journal_commit.specs.Holding.{running_holders}
 use Rattle.nl_journal_commit.specs.Standing.{IsJournaled}
@@ -38,7 +41,10 @@ use Rattle.nl_recover.specs.Starting.{Starts}
 use Rattle.nl_recover.specs.declared.opening.Walked.{Walked}
 use Rattle.nl_recover.proofs.StartFacts.{walked_starts}
 use Rattle.nl_core.specs.Core.{FreeAreUnused, HasSpace, IsCore}
+use Rattle.nl_core.specs.Trees.{CoreRepresentsTree}
 use Rattle.nl_core.specs.declared.state.Core.{Core}
+use Rattle.nl_test_core_still.specs.New.{HasNoEntries, IsNew}
+use Rattle.nl_test_core_still.proofs.Root.{no_page, root_alone}
 
 none_carried : length (carried nothing) ≡ 0
 unfolding carried
@@ -137,8 +143,11 @@ module _ {D : Type 0} (g : Ghosts D) (s : D) (seen : List Seen) (w : Walked) (fr
     }
 
     -- no file has a page
+    no_pointers : held_in (g.shape s) (running_on g s w.meta) ≡ []
+    no_pointers = none_of (λ (h : Held). h.pointer) (held_in (g.shape s) (running_on g s w.meta)) (sym is.kept ∙ kept)
+
     none_held : running_holders g s w.meta ≡ []
-    none_held = ap (λ (hs : List Held). map with_tag hs) (none_of (λ (h : Held). h.pointer) (held_in (g.shape s) (running_on g s w.meta)) (sym is.kept ∙ kept))
+    none_held = ap (λ (hs : List Held). map with_tag hs) no_pointers
 
     retains : Retains [] (λ p. p.name) (g.found s) (g.names s)
     retains = record {
@@ -206,3 +215,40 @@ module _ {D : Type 0} (g : Ghosts D) (s : D) (seen : List Seen) (w : Walked) (fr
       moment = omega arith;
       writes = λ still. record { spare = idle.spare; lands = idle.lands; firm = λ told. idle.firm told.0; counts = idle.counts };
     }
+
+    -- ---- as the tree with only the root
+
+    -- the pages are metadata of a tree, and no pointer wants a page of a file
+    right : RightFor (g.shape s) (running_on g s w.meta) no_page
+    right =
+        let m = is.consistent.metadata in
+        record {
+          legal = m.numbers.legal;
+          numbers = idle.volume.numbers;
+          tree = record {
+            nodes = m.tree.nodes;
+            addresses = m.tree.addresses;
+            entries = m.tree.entries;
+            pointers = record {
+              below = m.tree.pointers.below;
+              there = λ h has. absurd (subst (λ (hs : List Held). members.Has hs h) no_pointers has);
+              stamps_differ = m.tree.pointers.stamps_differ;
+              names_differ = m.tree.pointers.names_differ;
+            };
+          };
+        }
+
+    module _ (empty : HasNoEntries w.meta) where
+      runs : CoreRepresentsTree g core_over no_page empty_tree
+      runs = record {
+        runs = record {
+          right = right;
+          represents = record { is_tree = empty_is_tree; depicts = root_alone g s seen w bounds is empty };
+          data_fits = subst (λ (n : ℕ). n ≤ (g.shape s).cap) (sym no_data_in) (omega arith);
+        };
+        shows = λ p page live. absurd (none-some page (sym (idle.no_live p) ∙ live));
+        given = λ stamp page has. absurd (none-some page has);
+      }
+
+      pub begun_new : IsNew g core_over
+      begun_new = record { runs = λ tells. (no_page, runs); flight = refl; no_files = ap (λ (xs : List (Tag × Pointer)). length xs) none_held }

@@ -1,21 +1,20 @@
 -- A memory that has no page of a file can be begun.
-use Rattle.std.proofs.Common.{◌≡◌, ◌⊎◌, ℕ, zero, suc, ◌+◌, ◌*◌, ◌<◌, ◌≤◌, Bool, true, false, cond, count_by, List, Option, Some, None, is_some, refl, sym, ap, subst, ◌∙◌, arith}
+use Rattle.std.proofs.Common.{◌≡◌, ℕ, zero, suc, ◌+◌, ◌*◌, Bool, false, cond, count_by, is_some, refl, sym, ap, subst, ◌∙◌, arith}
 use Rattle.std.specs.List.{range_with_len}
 use Rattle.std.proofs.lemmas.List.Sums.{sum_by-cons}
 use Rattle.std.proofs.lemmas.Option.{same_Some}
-use Rattle.nl_field.specs.CrashStates.{Rose, top}
+use Rattle.nl_field.specs.CrashStates.{Rose}
 use Rattle.nl_field.specs.Medium.{first_physical}
 use Rattle.nl_field.specs.Numbers.{shape_for}
 use Rattle.nl_field.specs.declared.shape.Shape.{Shape}
 use Rattle.nl_iface.specs.Calls.{StoresPages}
 use Rattle.nl_iface.specs.Device.{IsVolumeShape}
-use Rattle.nl_iface.specs.Names.{IsNames, IsTableOfNames, LivePage, Names}
+use Rattle.nl_iface.specs.Names.{IsNames, IsTableOfNames, Names}
 use Rattle.nl_iface.specs.Stored.{NamedAgree, NamedPage}
 use Rattle.nl_testkit_still.specs.Laws.{was_some}
 use Rattle.nl_testkit_still.specs.Stands.{IsStill}
-use Rattle.nl_testkit_still.specs.Still.{bytes_at, holding, label_at, live_at, live_in, named_at, names_of, stored_in}
+use Rattle.nl_testkit_still.specs.Still.{bytes_at, holding, label_at, live_at, named_at, names_of, stored_in}
 use Rattle.nl_testkit_still.specs.contracts.counts.StillCounts.TheImpl.{ghosts}
-use Rattle.nl_testkit_still.specs.declared.still.Label.{Label}
 use Rattle.nl_testkit_still.specs.declared.still.Still.{Still}
 use Rattle.nl_test_core_still.specs.Idle as idle
 use Rattle.nl_test_core_still.proofs.Begun.{IsIdle}

@@ -7,4 +7,4 @@ mod opening;
 mod rows;
 pub mod running;
 
-pub use opening::open;
+pub use opening::{open, open_least};

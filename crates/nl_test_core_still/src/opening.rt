@@ -1,16 +1,23 @@
 // A new volume in a memory, and the core over it.
-ghost use Rattle.std.specs.Prelude.{◌≡◌, ◌*◌, ◌≤◌, ◌<◌, [], IfOk, IsTrue};
+ghost use Rattle.std.specs.Prelude.{◌≡◌, ◌*◌, ◌≤◌, ◌<◌, [], IfOk, IsSome, IsTrue, Some};
 ghost use Rattle.nl_core.specs.Core.{IsCore};
 ghost use Rattle.nl_field.specs.Numbers.{ShapeBounds};
+ghost use Rattle.nl_field.specs.declared.inode.InodeRec.{InodeRec};
 ghost use Rattle.nl_flight.specs.Flight.{IsFlight, nothing};
 ghost use Rattle.nl_iface.specs.Device.{IsVolumeShape};
+ghost use Rattle.nl_inode.specs.Nodes.{page_of_node};
+ghost use Rattle.nl_meta.specs.Nodes.{inode_at};
+ghost use Rattle.nl_meta.specs.Pages.{page_of};
 ghost use Rattle.nl_recover.specs.Recovering.{IsWalked};
 ghost use Rattle.nl_test_core_still.specs.Idle.{IsIdleStill};
+ghost use Rattle.nl_test_core_still.specs.New.{HasNoEntries, IsNew};
 
 use nl_core::Core;
-use nl_field::{FailList, Memory, PageBuf, PointerList, Shape, VirtualWrite};
+use nl_field::{FailList, Memory, PageBuf, PointerList, Shape, VirtualWrite, shape_of};
 use nl_flight::Flight;
 use nl_iface::{Counts, MovingPages, VirtualPages};
+use nl_inode::Nodes;
+use nl_meta::Meta;
 use nl_nand::MemNand;
 use nl_recover::{Recovered, Walked, recover};
 use nl_scan::{ScanTables, Scanned, scan};
@@ -28,12 +35,24 @@ const ROOT: [u8; 24] = *b"\x02\0\0\0\0\0\0\0\0\0\0\0\0\0\0\0\0\0\0\0\0\0\0\0";
 pub fn open(alloc: Global, shape: Shape) -> Result<Core<Still>, Memory>
     requires volume { IsVolumeShape shape }
     requires bounds { ShapeBounds shape }
-    ensures { IfOk result (IsCore ⟦<Still as Counts>⟧) }
+    ensures core { IfOk result (IsCore ⟦<Still as Counts>⟧) }
+    ensures new { IfOk result (IsNew ⟦<Still as Counts>⟧) }
 {
     let still = formatted(alloc, shape)?;
     let scan = no_pages(alloc)?;
     let room = room_for(alloc, &shape)?;
     opened(alloc, still, shape, &scan, room)
+}
+
+/// The core over a new volume of 32 blocks of 32 pages.
+pub fn open_least(alloc: Global) -> Result<Core<Still>, Memory>
+    ensures core { IfOk result (IsCore ⟦<Still as Counts>⟧) }
+    ensures new { IfOk result (IsNew ⟦<Still as Counts>⟧) }
+{
+    match shape_of(32, 32) {
+        Some(shape) => open(alloc, shape),
+        None => Err(Memory),
+    }
 }
 
 // The lines in flight of all workers, and a list with room for each page of files.
@@ -67,7 +86,8 @@ fn opened(
     requires flight { room.flight ≡ nothing }
     requires freeing { room.freeing.items ≡ [] }
     requires room { shape.pblocks * shape.pages ≤ room.freeing.room }
-    ensures { IfOk result (IsCore ⟦<Still as Counts>⟧) }
+    ensures core { IfOk result (IsCore ⟦<Still as Counts>⟧) }
+    ensures new { IfOk result (IsNew ⟦<Still as Counts>⟧) }
 {
     let mut still = still;
     match recover(alloc, &mut still, &shape, scan) {
@@ -79,7 +99,7 @@ fn opened(
     }
 }
 
-// The core over the volume that is on this memory, where no file has a page.
+// The core over the volume that is on this memory, where no file has a page and the root has no entry.
 fn begun(
     still: Still,
     shape: Shape,
@@ -92,13 +112,27 @@ fn begun(
     requires flight { room.flight ≡ nothing }
     requires freeing { room.freeing.items ≡ [] }
     requires room { shape.pblocks * shape.pages ≤ room.freeing.room }
-    ensures { IfOk result (IsCore ⟦<Still as Counts>⟧) }
+    ensures core { IfOk result (IsCore ⟦<Still as Counts>⟧) }
+    ensures new { IfOk result (IsNew ⟦<Still as Counts>⟧) }
 {
     if walked.kept.len() != 0 {
         return Err(Memory);
     }
+    if entries_of_root(&walked.nodes, &walked.meta) != 0 {
+        return Err(Memory);
+    }
     let Room { flight, freeing } = room;
     Ok(begin(still, shape, scan, walked, flight, freeing))
+}
+
+// How many entries the root has, whose page is there.
+fn entries_of_root(nodes: &Nodes, meta: &Meta) -> u64
+    requires there { IsSome (page_of meta.now (page_of_node 0)) }
+    requires spelled { IsSome (inode_at (page_of meta.now) 0) }
+    ensures { (rec : InodeRec) → inode_at (page_of meta.now) 0 ≡ Some rec → rec.size ≡ result }
+{
+    let root = nodes.get(meta, 0);
+    root.size
 }
 
 /// A memory that has a volume with an empty root.
@@ -146,7 +180,7 @@ fn no_pages(alloc: Global) -> Result<ScanTables, Memory> {
     }
 }
 
-/// Begins a core over a memory that was walked, on which no page of a file is live.
+/// Begins a core over a memory that was walked, on which no page of a file is live and the root has no entry.
 fn begin(
     still: Still,
     shape: Shape,
@@ -158,10 +192,12 @@ fn begin(
     requires idle { IsIdleStill shape still }
     requires walked { IsWalked ⟦<Still as Counts>⟧ still scan.now.seen walked }
     requires kept { walked.kept.items ≡ [] }
+    requires root { HasNoEntries walked.meta }
     requires flight { flight ≡ nothing }
     requires freeing { freeing.items ≡ [] }
     requires room { shape.pblocks * shape.pages ≤ freeing.room }
-    ensures { IsCore ⟦<Still as Counts>⟧ result }
+    ensures core { IsCore ⟦<Still as Counts>⟧ result }
+    ensures new { IsNew ⟦<Still as Counts>⟧ result }
 {
     let _ = scan.len();
     lines_stand(&flight);

@@ -1,11 +1,10 @@
 // A core that programs pages, drops them and commits, until the memory is full.
-ghost use Rattle.std.specs.Prelude.{IfOk};
 ghost use Rattle.nl_core.specs.Core.{IsCore};
 
-use crate::opening::open;
+use crate::opening::open_least;
 use crate::running::{commit, drop_line, program};
 use nl_core::Core;
-use nl_field::{Memory, PageBuf, shape_of};
+use nl_field::{Memory, PageBuf};
 use nl_iface::{Counts, MovingPages};
 use nl_testkit_still::Still;
 use std::alloc::Global;
@@ -32,16 +31,6 @@ fn seen_of(core: &Core<Still>) -> Told {
     }
 }
 
-/// A core over a new volume of 32 blocks of 32 pages.
-fn opened(alloc: Global) -> Result<Core<Still>, Memory>
-    ensures { IfOk result (IsCore ⟦<Still as Counts>⟧) }
-{
-    match shape_of(32, 32) {
-        Some(shape) => open(alloc, shape),
-        None => Err(Memory),
-    }
-}
-
 /// How many of so many lines of sixteen pages were programmed whole and dropped.
 fn lines(core: &mut Core<Still>, count: u32, buf: &PageBuf) -> u32
     requires core { IsCore ⟦<Still as Counts>⟧ core.old }
@@ -63,7 +52,7 @@ fn lines(core: &mut Core<Still>, count: u32, buf: &PageBuf) -> u32
 /// commit made.
 fn of_a_line(alloc: Global) -> Result<[Told; 3], Memory> {
     let buf = PageBuf::new(alloc)?;
-    let mut core = opened(alloc)?;
+    let mut core = open_least(alloc)?;
     let first = seen_of(&core);
     let done = program(&mut core, 3, 17, &buf);
     let second = seen_of(&core);
@@ -112,7 +101,7 @@ fn a_line(rt: HostRuntime) -> Result<(), Fail> {
 /// How many of 46 lines were programmed whole on a new volume, whether one page more was, and what is told then.
 fn of_a_full_memory(alloc: Global) -> Result<(u32, u32, Told), Memory> {
     let buf = PageBuf::new(alloc)?;
-    let mut core = opened(alloc)?;
+    let mut core = open_least(alloc)?;
     let whole = lines(&mut core, 46, &buf);
     let more = program(&mut core, 0, 1, &buf);
     Ok((whole, more, seen_of(&core)))

@@ -9,7 +9,7 @@ use nl_journal::Committing;
 use nl_testkit_still::Still;
 
 /// Whether no write may follow: one failed, or the write sequence numbers are beyond those of the tests.
-fn is_read_only(core: &Core<Still>) -> bool
+pub fn is_read_only(core: &Core<Still>) -> bool
     ensures stopped { result ≡ false → core.now.stopped ≡ 0 }
     ensures stamp { result ≡ false → ⟦<Still as Counts>⟧.next_stamp core.now.device ≤ 2 ^ 40 }
 {

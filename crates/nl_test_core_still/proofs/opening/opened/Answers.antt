@@ -1,4 +1,3 @@
-use Rattle.std.proofs.Common.{sym}
 use Rattle.nl_test_core_still.proofs.Idle.{idle_on}
 use Rattle.nl_test_core_still.proofs.opening.opened.Goals as goal
 
