@@ -45,7 +45,7 @@ pub data NotOpened (tells : Type 0) (medium medium' : Medium) (status : ℕ) (te
   damaged : (place : Place) → status ≡ 7 → text ≡ damaged_text place → (tells → IsDamaged medium.contents place)
       → NotOpened tells medium medium' status text
 
--- How a format ends. After a failure nothing is said of what the medium holds.
+-- How a format ends. After a failure nothing is said here of what the medium holds; what a stop leaves is said beside it.
 pub data FormatEnds (tells : Type 0) (blocks pages : ℕ) (sink sink' : Stream) (medium medium' : Medium) (order : List Ordered) (syncs : List Synced) (status : ℕ) : Type 0 where
   format_fault : status ≡ 5 → Rose medium.counts.write_faults medium'.counts.write_faults → Prints sink sink' (codes "medium fault\n")
       → order ≡ [] → syncs ≡ []

@@ -26,11 +26,12 @@ use std::thread::Threads;
 /// what is at fault. `tree` prints every path, and `report` what the volume takes of what there is. `soak SEED N W` runs a script that is
 /// drawn from a number, of N lines for each of W workers, and prints a summary.
 ///
-/// Of a run, and of a soak, one order of all its lines is told. Each answer is what a plain tree of files replies at its place in that
-/// order, or a fault reply that has its cause; a stop within any program or erase leaves a medium that opens as the tree after a prefix of
-/// that order holding every synced call; and the medium ends as the tree after all of it, where nothing failed. The gate decides nothing of
-/// it. A stop within a call that runs no line leaves nothing new, but for a format: after its forming a stop leaves a blank image, one
-/// damaged at its super page, or the empty volume.
+/// Of a run, and of a soak, one order of all its lines is told. Over a medium that tells its contents each answer is what a plain tree of
+/// files replies at its place in that order, or a fault reply that has its cause; a stop within any program or erase leaves a medium that
+/// opens as the tree after a prefix of that order holding every synced call; and the medium ends as the tree after all of it, where no
+/// count of faults rose, nor stands at its end, and the volume is not worn. The gate decides nothing of it. A stop within a call that runs
+/// no line leaves nothing new, but for a format: after its forming a stop leaves a blank image, one damaged at its super page, or the empty
+/// volume.
 ///
 /// Statuses: 0; 2 for faulty words, and for a script that is refused; 3 where the source failed; 4 where the sink failed; 5 where the
 /// medium failed, a page was lost, the volume is worn or an answer is a fault reply; 6 for want of memory, before the first turn; 7 for a
