@@ -45,7 +45,8 @@ pub record IsTaker (n : Notices) (p : NoticePass) : Type 0 where
   pub of_queue : IsPassOf n.queue p.pass
   pub may : (view p.pass).takes ≡ true
 
--- the queue was full: of these, which were sent, the last so many were not taken
+-- At least as many numbers were sent as the queue has room for. It was full where the last so many were not taken, which the sender does
+-- not see.
 pub record WasFull (room : ℕ) (all : List ℕ) : Type 0 where
   pub waiting : List ℕ
   pub last : IsBack waiting all

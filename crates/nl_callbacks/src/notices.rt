@@ -125,8 +125,8 @@ impl Notices {
         ))
     }
 
-    /// Sends a number. False only where the queue was full at a step of this call: as many of those that were sent as it has
-    /// room for were not taken yet.
+    /// Sends a number. False where the queue was full at a step of this call. Of that the clause says what the sender sees: at least as
+    /// many numbers were sent before as the queue has room for.
     pub fn send<R: Wait>(&self, rt: &R, pass: &mut NoticePass, number: u64) -> bool
         requires { IsSender self.now pass.old }
         ensures sender { IsSender self.now pass.new }

@@ -21,11 +21,11 @@ use Rattle.nl_cmd_words.specs.Ends.{CheckEnds, finds, is_sound}
 use Rattle.nl_cmd_words.specs.Others.{IsDamaged}
 use Rattle.nl_cmd_words.proofs.Ending.{done_since}
 
-module _ (walk_is_soundness : WalkDecidesConsistency) (image : Image) (whole : IsTrue (is_image image)) (bits : Findings) (count : ℕ) (checks : Checks image bits count) where
+module _ (walk_finds_consistency : WalkDecidesConsistency) (image : Image) (whole : IsTrue (is_image image)) (bits : Findings) (count : ℕ) (checks : Checks image bits count) where
   found_sound : bits_of bits ≡ 0 → (tree : Tree) × ConsistentAs image count tree
   found_sound none =
       let clean : walk image ≡ None = checks.empty.0 none in
-      let k = (walk_is_soundness image whole).0 clean in
+      let k = (walk_finds_consistency image whole).0 clean in
       let c = checks.sound clean in
       let same : k.2.stands.metadata.super_rec ≡ c.0 = cc (sym k.2.stands.metadata.numbers.spelled ∙ c.1) in
       let is : k.0 ≡ count = sym k.2.stands.count_of_calls ∙ ap (λ r. r.count) same ∙ c.2 in
@@ -36,24 +36,24 @@ module _ (walk_is_soundness : WalkDecidesConsistency) (image : Image) (whole : I
     where
       by : (fault : Option Place) → walk image ≡ fault → (place : Place) × IsDamaged image place
       by None is = absurd (some (checks.empty.1 is))
-      by (Some place) is = (place, record { readable = readable; first = is; not_sound = λ sound. some (checks.empty.1 ((walk_is_soundness image whole).1 sound)) })
+      by (Some place) is = (place, record { readable = readable; first = is; not_sound = λ sound. some (checks.empty.1 ((walk_finds_consistency image whole).1 sound)) })
 
 -- A check that found out what there is. The counts of faults before it are these.
-pub check_found : (walk_is_soundness : WalkDecidesConsistency) (tells : Type 0) (bits : Findings) (count reads writes : ℕ) (sink sink' : Stream) (medium middle medium' : Medium) (order : List Ordered) (syncs : List Synced) (status : ℕ)
+pub check_found : (walk_finds_consistency : WalkDecidesConsistency) (tells : Type 0) (bits : Findings) (count reads writes : ℕ) (sink sink' : Stream) (medium middle medium' : Medium) (order : List Ordered) (syncs : List Synced) (status : ℕ)
     → reads ≡ medium.counts.read_faults → writes ≡ medium.counts.write_faults → medium' ≡ middle
     → (tells → IsTrue (is_image medium.contents)) → (tells → Checks medium.contents bits count) → (tells → readable_pages medium.contents ≢ [])
     → Untouched tells medium middle → order ≡ [] → syncs ≡ []
     → (bits_of bits ≡ 0 → Prints sink sink' (sound_text count) × DoneStatus status (Rose reads middle.counts.read_faults ⊎ Rose writes middle.counts.write_faults) sink sink' (sound_text count))
     → (bits_of bits ≢ 0 → (status ≡ 8) × Prints sink sink' (findings_text bits))
     → CheckEnds tells sink sink' medium medium' order syncs status
-check_found walk_is_soundness tells bits count reads writes sink sink' medium middle medium' order syncs status is_reads is_writes same whole checks readable untouched no_lines no_syncs sound faults =
+check_found walk_finds_consistency tells bits count reads writes sink sink' medium middle medium' order syncs status is_reads is_writes same whole checks readable untouched no_lines no_syncs sound faults =
     subst (λ m. CheckEnds tells sink sink' medium m order syncs status) (sym same) (by (bits_of bits) refl)
   where
     by : (n : ℕ) → bits_of bits ≡ n → CheckEnds tells sink sink' medium middle order syncs status
     by zero none =
         let told = sound none in
         is_sound (sound_text count)
-        (record { count = count; text_is = refl; sound = λ t. found_sound walk_is_soundness medium.contents (whole t) bits count (checks t) none })
+        (record { count = count; text_is = refl; sound = λ t. found_sound walk_finds_consistency medium.contents (whole t) bits count (checks t) none })
         (record { prints = told.0; untouched = untouched; no_lines = no_lines; no_syncs = no_syncs })
         (done_since reads writes sink sink' medium middle status (sound_text count) is_reads is_writes told.1)
     by (suc n) is =
@@ -65,7 +65,7 @@ check_found walk_is_soundness tells bits count reads writes sink sink' medium mi
           some = some;
           text_is = refl;
           are = λ t. (checks t).findings;
-          first = λ t. found_damaged walk_is_soundness medium.contents (whole t) bits count (checks t) some (readable t);
+          first = λ t. found_damaged walk_finds_consistency medium.contents (whole t) bits count (checks t) some (readable t);
         })
         (record { prints = told.1; untouched = untouched; no_lines = no_lines; no_syncs = no_syncs })
       where

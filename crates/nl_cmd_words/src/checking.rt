@@ -14,7 +14,7 @@ use nl_field::Findings;
 use nl_io::Sink;
 use nl_nand::Nand;
 use nl_print::{findings_lines, number_line};
-use nl_spec_image::laws::walk_is_soundness;
+use nl_spec_image::laws::walk_finds_consistency;
 use std::alloc::Global;
 
 /// Prints what a check finds on a medium: that it is sound after so many calls, with status 0, or what is at fault, with status 8. Of a
@@ -25,7 +25,7 @@ pub fn check<K: Sink, M: Nand>(alloc: Global, sink: &mut K, media: M) -> Done<M>
         result.order.items result.syncs.items result.status }
     ensures left { M.tells → (m : ℕ) (c : Image) → M.left result.media m c → M.left media m c }
 {
-    walk_is_soundness();
+    walk_finds_consistency();
     let before = faults_of(&media);
     let (checked, media) = findings(alloc, media);
     match checked {

@@ -45,7 +45,7 @@ use Rattle.nl_journal_commit.proofs.Standing.{addresses_stand}
 use Rattle.nl_spec_commits.specs.Held.{IsHeldVolume, opened}
 use Rattle.nl_spec_commits.specs.Committed.{read_as}
 use Rattle.nl_spec_commits.specs.Standing.{IsFirm, ShowsPages}
-use Rattle.nl_spec_image.specs.LeftIsSound.{MapRepresents}
+use Rattle.nl_spec_image.specs.CrashConsistency.{MapRepresents}
 use Rattle.nl_spec_image.proofs.NamedPages.{named_member}
 use Rattle.nl_field.specs.SpareRecord.{stamp_of}
 use Rattle.nl_spec_image.specs.RightFor.{PagesRepresent}

@@ -24,7 +24,7 @@ use Rattle.nl_meta.proofs.WalkProofs.{walk_is_consistency}
 use Rattle.nl_meta_running.specs.Running.{running_on, stored_on}
 use Rattle.nl_scan.specs.Tables.{ScanTable}
 use Rattle.nl_spec_image.specs.Stands.{ConsistentAs}
-use Rattle.nl_spec_image.proofs.SoundProofs.{walk_is_soundness}
+use Rattle.nl_spec_image.proofs.SoundProofs.{walk_finds_consistency}
 use Rattle.nl_recover.specs.Recovering.{IsWalked}
 use Rattle.nl_recover.specs.declared.opening.Walked.{Walked}
 use Rattle.nl_recover.proofs.Imaged.{walks_the_image}
@@ -76,7 +76,7 @@ module _ {M : Type 0} (g : Ghosts (Device M)) (s d : Device M) (image : Image) (
     -- the tree as which the image is sound
     pub sound : IsTrue (is_image image) → walk image ≡ None → (tree : Tree) × ConsistentAs image w.count tree
     sound whole none =
-        let k = (walk_is_soundness image whole).0 none in
+        let k = (walk_finds_consistency image whole).0 none in
         let c = counted in
         let same : k.2.stands.metadata.super_rec ≡ c.0 = some_in k.2.stands.metadata.super_rec c.0 (sym k.2.stands.metadata.numbers.spelled ∙ c.1) in
         let count : k.0 ≡ w.count = sym k.2.stands.count_of_calls ∙ ap (λ (r : SuperRec). r.count) same ∙ c.2 in

@@ -59,7 +59,8 @@ impl Journal {
         })
     }
 
-    /// The number that the next transaction to begin will have, up to 2^63 - 1. The commit page raises it, and nothing else.
+    /// The number that the next commit page will have, up to 2^63 - 1: of the transaction that is being written, until its commit page is,
+    /// else of the next one to begin.
     pub fn next_number(&self) -> u64
         ensures { result ≡ after self.now.number }
     {
@@ -85,7 +86,7 @@ impl Journal {
         }
     }
 
-    /// The units left of the frozen transaction, 0 where nothing is frozen.
+    /// The units left of the frozen transaction, 0 where nothing is frozen. The frozen pages are those of the metadata.
     pub fn left(&self, meta: &Meta) -> u32
         requires { IsPhase self.now.phase (length meta.now.frozen.addresses) }
         ensures { result ≡ units_left self.now.phase (length meta.now.frozen.addresses) }

@@ -15,7 +15,8 @@ use nl_field::PageBuf;
 /// A program cut short leaves its page erased, wholly new or uncorrectable. An erase cut short leaves each page of the block
 /// as it was, erased or uncorrectable. A failed one leaves what one cut short may. No other page changes.
 pub trait Nand {
-    /// The medium tells what its pages hold. Where it does not, no clause says what `contents` and `left` are of it.
+    /// The medium tells what its pages hold. Where it does not, no clause says what a page of it holds; clauses on `left` then say only how
+    /// a program or an erase adds to what a crash may have left, and that `contents` is left now.
     ghost tells: { Type 0 };
 
     ghost geometry: { Self → Numbers };

@@ -28,7 +28,7 @@ use Rattle.nl_meta.specs.Nodes.{Held}
 use Rattle.nl_meta.specs.Pages.{IsPages, Pages, dirty_pages, is_dirty, page_of}
 use Rattle.nl_meta.specs.Steps.{with_dirty}
 use Rattle.nl_meta_running.specs.Running.{running_on}
-use Rattle.nl_spec_image.specs.LeftIsSound.{LeavesTree}
+use Rattle.nl_spec_image.specs.CrashConsistency.{LeavesTree}
 use Rattle.nl_journal_commit.specs.Committing.{ChangesAt, CommitsInParts, EarlierAt}
 use Rattle.nl_journal_commit.specs.Completing.{Completes, IsDecided, AwaitsCommitPage}
 use Rattle.nl_journal_commit.specs.Counting.{record_of, with_count, with_frozen}

@@ -28,7 +28,7 @@ use Rattle.nl_meta.specs.Pages.{Pages}
 use Rattle.nl_meta.proofs.Lists.{none_some}
 use Rattle.nl_meta_running.specs.Running.{running_on}
 use Rattle.nl_meta_running.proofs.Holds.{bounds-of}
-use Rattle.nl_spec_image.specs.LeftIsSound.{IsLiveFor, MapRepresents, committed_in}
+use Rattle.nl_spec_image.specs.CrashConsistency.{IsLiveFor, MapRepresents, committed_in}
 use Rattle.nl_spec_image.specs.RightFor.{PagesRepresent}
 use Rattle.nl_spec_image.specs.Stands.{bytes_for}
 use Rattle.nl_spec_image.proofs.Represented.{represents_same}

@@ -29,7 +29,7 @@ use Rattle.nl_meta_running.proofs.GraphStays.{graph-same}
 use Rattle.nl_meta_running.proofs.Holds.{bounds-of}
 use Rattle.nl_meta_running.specs.FileLaws.{IsRight}
 use Rattle.nl_meta_running.specs.Running.{running_on}
-use Rattle.nl_spec_image.specs.LeftIsSound.{IsLiveFor, LeavesTree, MapRepresents, committed_in}
+use Rattle.nl_spec_image.specs.CrashConsistency.{IsLiveFor, LeavesTree, MapRepresents, committed_in}
 use Rattle.nl_spec_image.specs.Stands.{bytes_for}
 use Rattle.nl_journal_commit.proofs.Places.{needed_home}
 use Rattle.nl_spec_commits.specs.Committed.{AreKept, read_as}

@@ -33,7 +33,7 @@ use Rattle.nl_meta_running.specs.FileLaws.{IsRight}
 use Rattle.nl_meta_running.specs.Running.{IsNeeded, running_on}
 use Rattle.nl_meta_running.proofs.GraphStays.{graph-same}
 use Rattle.nl_meta_running.proofs.Holds.{bounds-of}
-use Rattle.nl_spec_image.specs.LeftIsSound.{MapRepresents}
+use Rattle.nl_spec_image.specs.CrashConsistency.{MapRepresents}
 use Rattle.nl_spec_image.proofs.FreshProofs.{limits}
 use Rattle.nl_spec_image.specs.Stands.{bytes_for}
 use Rattle.nl_journal_commit.specs.Completing.{Completes, IsDecided, AwaitsCommitPage}

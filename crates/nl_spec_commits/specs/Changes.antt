@@ -40,6 +40,10 @@ pub record ReplacesSome (gone come old new : List (Tag × Pointer)) : Type 0 whe
 abbrev pub given_up : Pointer → List Pointer
 given_up p = if not (is_none_pointer p) then p ∷ [] else []
 
+-- what awaits its free once a page index that had this pointer has another
+abbrev pub awaiting_then : List Pointer → Pointer → List Pointer
+awaiting_then freeing was = freeing ++ given_up was
+
 -- ---- changes of the metadata
 
 -- Pages leave the running metadata, and await their free, behind the others. Pages come into it that were in flight.
@@ -69,7 +73,8 @@ InstallingKeepsHeld {D} g =
     (was to : Pointer) → IsVolumeShape (g.shape s) → IsJournaled g s p pages
     → IsHeldVolume g s p pages flight freeing → OnlyReads g s t → now.frozen ≡ pages.frozen
     → OneChanges tag was to (running_holders g s pages) (running_holders g t now)
-    → is_none_pointer to ≡ false → ListLoses tagged (tag, to) flight later → IsHeldVolume g t p now later (freeing ++ given_up was)
+    → is_none_pointer to ≡ false → ListLoses tagged (tag, to) flight later
+    → IsHeldVolume g t p now later (awaiting_then freeing was)
 
 -- The pointers of all files are what they were, as where names change.
 abbrev pub NamesKeepHeld : {D : Type 0} → Ghosts D → Type 0

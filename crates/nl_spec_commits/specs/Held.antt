@@ -24,7 +24,7 @@ use Rattle.nl_journal_commit.specs.Holding.{running_holders}
 use Rattle.nl_journal_commit.specs.Standing.{IsJournaled}
 use Rattle.nl_spec_commits.specs.Committed.{IsHoldingOn, read_as}
 use Rattle.nl_spec_commits.specs.CommittedLaws.{PreservesHoldingInFlight}
-use Rattle.nl_spec_commits.specs.SettlingLaws.{JournalIsObservable}
+use Rattle.nl_spec_commits.specs.SettlingLaws.{JournalIsObservable, MayAcknowledge}
 
 -- Each live page is held once: by the running metadata, in flight, or while it awaits its free. Where the medium tells its contents and
 -- the numbers of transactions have not ended, what is committed and what is frozen keep their pages. None is due.
@@ -75,7 +75,7 @@ abbrev pub AcknowledgedKeepsHeld : {D : Type 0} → Ghosts D → Type 0
 AcknowledgedKeepsHeld {D} g =
     (s t : D) (p : Progress) (pages : Pages) (flight : List (Tag × Pointer)) (freeing : List Pointer) (upto : ℕ) → IsVolumeShape (g.shape s)
     → IsJournaled g s p pages → IsHeldVolume g s p pages flight freeing
-    → KeepsMedium g s t → (JournalIsObservable g p pages → upto ≤ p.number) → Acknowledges upto (g.names s) (g.names t)
+    → KeepsMedium g s t → MayAcknowledge (JournalIsObservable g p pages) p upto → Acknowledges upto (g.names s) (g.names t)
     → IsHeldVolume g t p pages flight freeing
 
 -- who holds pages of a volume that was opened: nothing but its metadata, which is the committed one

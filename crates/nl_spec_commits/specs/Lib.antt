@@ -6,6 +6,7 @@ pub mod Held
 pub mod Trees
 pub mod TreeLaws
 pub mod DeviceLaws
+pub mod Examples
 pub mod Steps
 pub mod Changes
 pub mod FirmLaws

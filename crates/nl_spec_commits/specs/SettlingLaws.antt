@@ -28,6 +28,10 @@ pub record PreservesHoldingAsTold (told : Type 0) (v w : Holding) : Type 0 where
 abbrev pub JournalIsObservable : {D : Type 0} → Ghosts D → Progress → Pages → Type 0
 JournalIsObservable g p pages = g.tells × HasNumber p (length pages.frozen.addresses)
 
+-- Callbacks that transactions up to this number handled may be acknowledged: where it is told which transactions count, all of those do.
+abbrev pub MayAcknowledge : Type 0 → Progress → ℕ → Type 0
+MayAcknowledge told p upto = told → upto ≤ p.number
+
 -- A call that leaves the addresses as they were leaves what is committed and what is frozen, whoever else holds pages then.
 abbrev pub AddressesHold : {D : Type 0} → Ghosts D → Type 0
 AddressesHold {D} g =
@@ -64,8 +68,8 @@ FreesHold {D} g =
 -- Callbacks are acknowledged that transactions handled which count.
 abbrev pub AcknowledgesHold : {D : Type 0} → Ghosts D → Type 0
 AcknowledgesHold {D} g =
-    (s t : D) (p : Progress) (pages : Pages) (v : Holding) (upto : ℕ) → IsHoldingOn g s p pages v → (JournalIsObservable g p pages → upto ≤ p.number)
-    → Acknowledges upto (g.names s) (g.names t)
+    (s t : D) (p : Progress) (pages : Pages) (v : Holding) (upto : ℕ) → IsHoldingOn g s p pages v
+    → MayAcknowledge (JournalIsObservable g p pages) p upto → Acknowledges upto (g.names s) (g.names t)
     → PreservesHoldingAsTold (JournalIsObservable g p pages) v (record v { names = g.names t })
 
 -- Where no page is due, and the frozen transaction gives up none, all is kept too.

@@ -20,7 +20,7 @@ use Rattle.nl_meta.specs.Consistent.{PageOfStamp}
 use Rattle.nl_meta.specs.Nodes.{Held, held_in}
 use Rattle.nl_meta.specs.Pages.{IsPages, Pages, dirty_pages}
 use Rattle.nl_meta_running.specs.Running.{running_on}
-use Rattle.nl_spec_image.specs.LeftIsSound.{IsLiveFor, LeavesTree, MapRepresents}
+use Rattle.nl_spec_image.specs.CrashConsistency.{IsLiveFor, LeavesTree, MapRepresents}
 use Rattle.nl_journal_commit.specs.Completing.{AwaitsCommitPage}
 use Rattle.nl_journal_commit.specs.Holding.{IsHoldingOf}
 use Rattle.nl_journal_commit.specs.Standing.{IsJournaled}

@@ -12,7 +12,7 @@ use Rattle.nl_meta.specs.Committed.{VirtualMap}
 use Rattle.nl_meta.specs.Consistent.{PageOfStamp, RightFor}
 use Rattle.nl_meta.specs.Pages.{Pages}
 use Rattle.nl_meta_running.specs.Running.{running_on}
-use Rattle.nl_spec_image.specs.LeftIsSound.{LeavesTree, MapRepresents}
+use Rattle.nl_spec_image.specs.CrashConsistency.{LeavesTree, MapRepresents}
 use Rattle.nl_spec_image.specs.RightFor.{PagesRepresent}
 use Rattle.nl_journal_commit.specs.Completing.{AwaitsCommitPage}
 use Rattle.nl_spec_commits.specs.Committed.{read_as}

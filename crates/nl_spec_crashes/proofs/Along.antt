@@ -15,8 +15,8 @@ use Rattle.nl_iface.specs.Stored.{Stored, stored_in}
 use Rattle.nl_iface.specs.declared.counts.Counts.{Ghosts}
 use Rattle.nl_meta.specs.Consistent.{PageOfStamp}
 use Rattle.nl_spec_image.specs.Crash.{OpensAsPrefix, Run, with_call, with_sync}
-use Rattle.nl_spec_image.specs.LeftIsSound.{LeavesTree}
-use Rattle.nl_spec_image.proofs.LeftIsSoundProofs.{what_is_left_is_sound}
+use Rattle.nl_spec_image.specs.CrashConsistency.{LeavesTree}
+use Rattle.nl_spec_image.proofs.CrashConsistencyProofs.{crash_leaves_consistent}
 use Rattle.nl_spec_image.proofs.StopsKept.{more_calls, more_syncs}
 use Rattle.nl_spec_commits.specs.Trees.{StoredOpensAs, Prefix, Trees, all_at, prefixes}
 use Rattle.nl_core.specs.Goes.{PreservesVolume}
@@ -314,6 +314,6 @@ opens_sound g run m c image holds whole shape o =
       prefix = o.prefix;
       holds_synced = o.holds_synced;
       not_beyond = o.not_beyond;
-      sound = what_is_left_is_sound l.0 l.1 l.2 image o.prefix tree whole
+      sound = crash_leaves_consistent l.0 l.1 l.2 image o.prefix tree whole
           (subst (λ (h : Shape). LeavesTree h l.0 l.1 l.2 (stored_in image) o.prefix tree) shape (subst (λ (k : Stored). LeavesTree run.shape l.0 l.1 l.2 k o.prefix tree) holds l.3));
     }

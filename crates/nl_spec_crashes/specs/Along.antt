@@ -18,6 +18,10 @@ use Rattle.nl_core.specs.declared.state.Core.{Core}
 abbrev pub tree_at : Run → ℕ → Tree
 tree_at run k = replay run.shape run.tree (take (k - run.count) run.calls)
 
+-- the tree after all calls of the run
+abbrev pub last_tree : Run → Tree
+last_tree run = replay run.shape run.tree run.calls
+
 -- what a stop leaves opens as this tree after so many calls
 abbrev pub opens_as : {D : Type 0} (g : Ghosts D) → Shape → g.Crash → ℕ → Tree → Type 0
 opens_as g shape c count tree = StoredOpensAs shape (g.stored_of c) (count, tree)
@@ -28,13 +32,17 @@ pub record IsOfRun (run : Run) (x : Prefix) : Type 0 where
   pub to : x.0 ≤ run.count + length run.calls
   pub tree : x.1 ≡ tree_at run x.0
 
+-- No sync of the run made more calls durable than the committed tree has.
+abbrev pub SyncsAreCommitted : Run → Trees → Type 0
+SyncsAreCommitted run t = (s : SyncPoint) → Has run.syncs s → s.upto ≤ t.committed.0
+
 -- The core stands for the last tree of the run, and commits trees of it. Each sync made durable no more than is committed.
 pub record IsAlong {D : Type 0} (g : Ghosts D) (run : Run) (v : Core D) (page_of_stamp : ℕ → Option PageOfStamp) (t : Trees) : Type 0 where
   pub stands : CoreRepresents g v page_of_stamp t
   pub running : t.running ≡ tree_at run v.count
   pub committed : IsOfRun run t.committed
   pub frozen : IsOfRun run t.frozen
-  pub synced : (s : SyncPoint) → Has run.syncs s → s.upto ≤ t.committed.0
+  pub synced : SyncsAreCommitted run t
 
 -- The volume has answered the calls of the run since its first moment, when it was this one, the origin: what a stop had left before is no
 -- part of the run. The number of its transactions has risen by no more than the clock since. While the medium tells its contents, it runs
@@ -44,7 +52,7 @@ pub record FollowsRun {D : Type 0} (g : Ghosts D) (origin : Core D) (first : ℕ
   pub from : first ≤ g.clock v.device
   pub count : v.count ≡ saturated (run.count + length run.calls)
   pub paid : PaidSince g first origin.journal.number v
-  pub runs : g.tells → (page_of_stamp : ℕ → Option PageOfStamp) × CoreRepresentsTree g v page_of_stamp (replay run.shape run.tree run.calls)
+  pub runs : g.tells → (page_of_stamp : ℕ → Option PageOfStamp) × CoreRepresentsTree g v page_of_stamp (last_tree run)
   pub trees : CoreIsObservable g v → (page_of_stamp : ℕ → Option PageOfStamp) × (t : Trees) × IsAlong g run v page_of_stamp t
   pub stops : CoreIsObservable g v
       → CrashesSafely (opens_as g run.shape) (λ m c. g.left origin.device m c) (λ m c. g.left v.device m c) first (g.clock v.device) run

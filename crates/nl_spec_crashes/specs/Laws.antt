@@ -3,7 +3,7 @@ use Rattle.std.specs.Prelude.{◌≡◌, ℕ, ◌+◌, ◌≤◌, [], IsTrue, Op
 use Rattle.nl_field.specs.CrashStates.{saturated, top}
 use Rattle.nl_field.specs.Medium.{shape_of_image}
 use Rattle.nl_field.specs.Page.{Image, is_image}
-use Rattle.nl_tree.specs.Replay.{replay, step_marked}
+use Rattle.nl_tree.specs.Replay.{step_marked}
 use Rattle.nl_tree.specs.Tree.{Tree}
 use Rattle.nl_tree.specs.declared.call.Call.{Call}
 use Rattle.nl_tree.specs.declared.reply.FaultReply.{FaultReply}
@@ -19,7 +19,7 @@ use Rattle.nl_core.specs.Goes.{PreservesVolume}
 use Rattle.nl_core.specs.Laws.{StoredOpens}
 use Rattle.nl_core.specs.Trees.{CoreRepresentsTree, CoreRepresents, CoreIsObservable}
 use Rattle.nl_core.specs.declared.state.Core.{Core}
-use Rattle.nl_spec_crashes.specs.Along.{FollowsRun, opens_as}
+use Rattle.nl_spec_crashes.specs.Along.{FollowsRun, last_tree, opens_as}
 
 -- A volume as an opening leaves it goes along the run without calls from its count and its tree on.
 abbrev pub OpeningFollowsRun : {D : Type 0} → Ghosts D → Type 0
@@ -66,7 +66,7 @@ abbrev pub EndsDurable : {D : Type 0} → Ghosts D → Type 0
 EndsDurable {D} g =
     (v : Core D) (origin : Core D) (first : ℕ) (run : Run) → StoredOpens g v → FollowsRun g origin first run v → v.committed ≡ v.count
     → CoreIsObservable g v
-    → StoredOpensAs run.shape (stored g v.device) (v.count, replay run.shape run.tree run.calls)
+    → StoredOpensAs run.shape (stored g v.device) (v.count, last_tree run)
 
 -- What opens as a tree of the run is an image that is sound as that tree.
 abbrev pub OpensConsistent : {D : Type 0} → Ghosts D → Type 0

@@ -1,3 +1,4 @@
 pub mod Along
 pub mod Effects
+pub mod Examples
 pub mod Laws

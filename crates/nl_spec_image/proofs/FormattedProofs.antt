@@ -17,7 +17,7 @@ use Rattle.nl_meta.proofs.Lists.{some_in, true_false, none_some, member-some, so
 use Rattle.nl_meta.proofs.WalkProofs.{nodes_some, nodes_fit}
 use Rattle.nl_spec_image.specs.Fresh.{IsFreshPage, HasFreshPages, root_page, fresh_super}
 use Rattle.nl_spec_image.specs.Formatted.{formatted_root, formatted_super, IsFormatted, FormattedIsConsistent}
-use Rattle.nl_spec_image.proofs.FreshProofs.{limits, fresh_is_sound}
+use Rattle.nl_spec_image.proofs.FreshProofs.{limits, fresh_is_consistent}
 use Rattle.nl_spec_image.proofs.SpareProofs.{spare_by_copies}
 
 -- ---- lists with their numbers
@@ -171,8 +171,8 @@ module _ (image : Image) (whole : IsTrue (is_image image)) (legal : IsTrue (is_l
       apart : (n : ℕ) → n ≡ 0 → n ≡ 1 → ⊥
       apart n a b = omega arith
 
-pub formatted_is_sound : FormattedIsConsistent
-formatted_is_sound blocks pages image whole same_blocks same_pages legal formatted =
+pub formatted_is_consistent : FormattedIsConsistent
+formatted_is_consistent blocks pages image whole same_blocks same_pages legal formatted =
     let of = subst (λ (n : ℕ). IsFormatted image.blocks n image) (sym same_pages) (subst (λ (n : ℕ). IsFormatted n pages image) (sym same_blocks) formatted) in
     let is = subst (λ (n : ℕ). IsTrue (is_legal image.blocks n)) (sym same_pages) (subst (λ (n : ℕ). IsTrue (is_legal n pages)) (sym same_blocks) legal) in
-    fresh_is_sound image (has_fresh_pages image whole is of) (block_1_is_spare image whole is of)
+    fresh_is_consistent image (has_fresh_pages image whole is of) (block_1_is_spare image whole is of)

@@ -486,8 +486,8 @@ module _ (image : Image) (fresh : HasFreshPages image) where
     room = room spare;
   }
 
-pub fresh_is_sound : FreshIsConsistent
-fresh_is_sound image fresh spare = sound_with image fresh spare
+pub fresh_is_consistent : FreshIsConsistent
+fresh_is_consistent image fresh spare = sound_with image fresh spare
 
 -- there are more than four virtual blocks
 many_blocks : (blocks pages : ℕ) → is_legal blocks pages ≡ true → 4 < (shape_for blocks pages).vblocks
@@ -510,5 +510,5 @@ many_blocks blocks pages legal = by (cases_lt 0 (div_ceil v pages))
         absurd (none (div_ceil v pages) pages (div_ceil (blocks * pages / 16) 16 + blocks * pages / 32) h
         (omega (arith, at_least, (div_ceil_times v pages (omega (arith, (limits blocks pages legal).2))).0)))
 
-pub few_fresh_are_sound : FewFreshAreConsistent
-few_fresh_are_sound image fresh few = fresh_is_sound image fresh (spare_by_few_pages image (omega (arith, few, many_blocks image.blocks image.pages fresh.legal)))
+pub few_fresh_are_consistent : FewFreshAreConsistent
+few_fresh_are_consistent image fresh few = fresh_is_consistent image fresh (spare_by_few_pages image (omega (arith, few, many_blocks image.blocks image.pages fresh.legal)))

@@ -6,7 +6,7 @@ pub mod FreshImage
 pub mod FreshProofs
 pub mod GraphOfPages
 pub mod HolderListProofs
-pub mod LeftIsSoundProofs
+pub mod CrashConsistencyProofs
 pub mod MetaCharge
 pub mod NamedPages
 pub mod PagesOfFiles

@@ -37,17 +37,17 @@ represented : (image : Image) (count : ℕ) (tree : Tree) → ImageRepresents im
 unfolding bytes_found
 represented image count tree s = record { is_tree = s.is_tree; depicts = s.depicts }
 
-pub metadata_stands : MetadataRepresentsTree
+pub metadata_represents : MetadataRepresentsTree
 unfolding bytes_found
-metadata_stands image ok meta =
+metadata_represents image ok meta =
     let t = right_represents (shape_of_image image) (committed_of image) (page_on image) (image_is_right image ok meta) in
     (t.0, record { pages_whole = ok; metadata = meta; count_of_calls = refl; is_tree = t.1.is_tree; depicts = t.1.depicts })
 
 same_super : (shape : Shape) (pages : VirtualMap) (s t : SuperRec) → NumbersRight shape pages s → NumbersRight shape pages t → s ≡ t
 same_super shape pages s t p q = some_in s t (sym p.spelled ∙ q.spelled)
 
-pub stands_for_one : RepresentsOneTree
-stands_for_one image count count' tree tree' s t = (
+pub represents_one : RepresentsOneTree
+represents_one image count count' tree tree' s t = (
   sym s.count_of_calls
       ∙ ap (λ (r : SuperRec). r.count) (same_super (shape_of_image image) (committed_of image) s.metadata.super_rec t.metadata.super_rec s.metadata.numbers t.metadata.numbers)
       ∙ t.count_of_calls,
@@ -57,15 +57,15 @@ stands_for_one image count count' tree tree' s t = (
 pub charges_of_image : RepresentedHasCharges
 charges_of_image image count tree s = right_charges (shape_of_image image) (committed_of image) (page_on image) tree (image_is_right image s.pages_whole s.metadata) (represented image count tree s)
 
-pub walk_is_soundness : WalkDecidesConsistency
-walk_is_soundness image ok = (there, back)
+pub walk_finds_consistency : WalkDecidesConsistency
+walk_finds_consistency image ok = (there, back)
   where
     there : walk image ≡ None → IsConsistentImage image
     there e = by ((walk_is_consistency image).0 e)
       where
         by : Consistent image → IsConsistentImage image
         by c =
-            let s = metadata_stands image ok c.metadata in
+            let s = metadata_represents image ok c.metadata in
             (c.metadata.super_rec.count, s.0, record { stands = s.1; own_names = c.own_names; data_fits = subst (λ (n : ℕ). n ≤ (shape_of_image image).cap) (sym (charges_of_image image c.metadata.super_rec.count s.0 s.1).data_pages) c.data_fits; room = c.room })
 
     back : IsConsistentImage image → walk image ≡ None

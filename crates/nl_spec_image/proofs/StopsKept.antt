@@ -10,7 +10,7 @@ use Rattle.nl_tree.specs.Order.{SyncPoint, durable_prefix}
 use Rattle.nl_tree.specs.declared.call.Call.{Call}
 use Rattle.nl_tree.specs.declared.reply.FaultReply.{FaultReply}
 use Rattle.nl_spec_image.specs.Crash.{Run, with_call, with_sync, OpensAsPrefix}
-use Rattle.nl_spec_image.specs.CrashLaws.{PrefixesGoOn}
+use Rattle.nl_spec_image.specs.CrashLaws.{PrefixesStay}
 
 -- one sync more
 one_more : (syncs : List SyncPoint) (s : SyncPoint) (count m : ℕ)
@@ -76,5 +76,5 @@ module _ {I : Type 0} (opens : I → ℕ → Tree → Type 0) where
         sound = o.sound;
       }
 
-  pub prefixes_go_on : PrefixesGoOn opens
-  prefixes_go_on = record { more_calls = more_calls; more_syncs = more_syncs; earlier_moment = earlier_moment }
+  pub prefixes_stay : PrefixesStay opens
+  prefixes_stay = record { more_calls = more_calls; more_syncs = more_syncs; earlier_moment = earlier_moment }

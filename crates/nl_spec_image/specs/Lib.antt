@@ -3,7 +3,7 @@ pub mod CrashLaws
 pub mod Formatted
 pub mod Fresh
 pub mod HolderLists
-pub mod LeftIsSound
+pub mod CrashConsistency
 pub mod ReadablePages
 pub mod RightFor
 pub mod Stands

@@ -1,4 +1,4 @@
--- Which count of calls and which tree an image stands for, and when it is sound.
+-- Which count of calls and which tree an image stands for, and when it is consistent.
 use Rattle.std.specs.Prelude.{◌≡◌, ℕ, ◌≤◌, IsTrue, List, [], Option, option_map, unwrap_or}
 use Rattle.nl_field.specs.Page.{Image, is_image}
 use Rattle.nl_field.specs.Medium.{shape_of_image}

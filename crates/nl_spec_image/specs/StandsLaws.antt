@@ -1,4 +1,4 @@
--- An image whose metadata is right stands for exactly one tree. It is sound exactly where the walk finds no fault.
+-- An image whose metadata is right stands for exactly one tree. It is consistent exactly where the walk finds no fault.
 use Rattle.std.specs.Prelude.{◌≡◌, ◌↔◌, ℕ, IsTrue, None}
 use Rattle.nl_field.specs.Page.{Image, is_image}
 use Rattle.nl_field.specs.Medium.{shape_of_image}
@@ -20,7 +20,7 @@ RepresentsOneTree =
     (image : Image) (count count' : ℕ) (tree tree' : Tree) → ImageRepresents image count tree → ImageRepresents image count' tree'
     → (count ≡ count') × (tree ≡ tree')
 
--- Exactly the sound images are without a first fault, of those whose pages are whole.
+-- Exactly the consistent images are without a first fault, of those whose pages are whole.
 abbrev pub WalkDecidesConsistency : Type 0
 WalkDecidesConsistency = (image : Image) → IsTrue (is_image image) → (walk image ≡ None) ↔ IsConsistentImage image
 

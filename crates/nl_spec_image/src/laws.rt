@@ -1,8 +1,8 @@
-//! Laws of images: for which tree one stands, when it is sound, and which blocks can be done without. A function stands for each law.
+//! Laws of images: which tree one represents, when it is consistent, and which blocks can be done without. Each is a function's contract.
 ghost use Rattle.nl_spec_image.specs.Formatted.{FormattedIsConsistent};
 ghost use Rattle.nl_spec_image.specs.Fresh.{FewFreshAreConsistent, FreshIsConsistent, SpareByCopies, SpareByFewPages};
 ghost use Rattle.nl_spec_image.specs.HolderLists.{OneChangesHolders};
-ghost use Rattle.nl_spec_image.specs.LeftIsSound.{CrashStateIsConsistent};
+ghost use Rattle.nl_spec_image.specs.CrashConsistency.{CrashStateIsConsistent};
 ghost use Rattle.nl_spec_image.specs.ReadablePages.{PagesAreReadable};
 ghost use Rattle.nl_spec_image.specs.RightFor.{RepresentedIsOne, RightCharges, RightRepresents};
 ghost use Rattle.nl_spec_image.specs.StandsLaws.{MetadataRepresentsTree, RepresentsOneTree, WalkDecidesConsistency, RepresentedHasCharges};
@@ -14,22 +14,22 @@ pub fn pages_represent()
     ensures charges { RightCharges }
 {}
 
-/// Metadata of an image that is right stands for a tree.
-pub fn metadata_stands()
+/// Metadata of an image that is right represents a tree.
+pub fn metadata_represents()
     ensures { MetadataRepresentsTree }
 {}
 
-/// An image stands for at most one count and tree.
-pub fn stands_for_one()
+/// An image represents at most one count and tree.
+pub fn represents_one()
     ensures { RepresentsOneTree }
 {}
 
-/// Of images whose pages are whole exactly the sound ones are without a first fault.
-pub fn walk_is_soundness()
+/// Of images whose pages are whole exactly the consistent ones are without a first fault.
+pub fn walk_finds_consistency()
     ensures { WalkDecidesConsistency }
 {}
 
-/// The charges of the tree for which an image stands are those of the image's nodes.
+/// The charges of the tree that an image represents are those of the image's nodes.
 pub fn charges_of_image()
     ensures { RepresentedHasCharges }
 {}
@@ -45,17 +45,17 @@ pub fn spare_by_few_pages()
 {}
 
 /// The pages that formatting leaves open as the tree with only the root, on any legal geometry.
-pub fn fresh_is_sound()
+pub fn fresh_is_consistent()
     ensures { FreshIsConsistent }
 {}
 
 /// What a format leaves opens as the tree with only the root.
-pub fn formatted_is_sound()
+pub fn formatted_is_consistent()
     ensures { FormattedIsConsistent }
 {}
 
 /// At most four readable pages that a format left open as the tree with only the root.
-pub fn few_fresh_are_sound()
+pub fn few_fresh_are_consistent()
     ensures { FewFreshAreConsistent }
 {}
 
@@ -64,8 +64,8 @@ pub fn pages_are_readable()
     ensures { PagesAreReadable }
 {}
 
-/// What a device promises of what a stop leaves makes it sound, where the committed map stands for a tree and its pointers lead.
-pub fn what_is_left_is_sound()
+/// What a device promises of what a stop leaves makes it consistent, where the committed map represents a tree and its pointers lead.
+pub fn crash_leaves_consistent()
     ensures { CrashStateIsConsistent }
 {}
 

@@ -1,4 +1,4 @@
-//! What an image stands for.
+//! What an image represents.
 #![tactic(auto)]
 
 pub mod laws;

@@ -1,5 +1,5 @@
 //! Laws on what a stop leaves of a run, whatever an image is.
-ghost use Rattle.nl_spec_image.specs.CrashLaws.{PrefixesGoOn};
+ghost use Rattle.nl_spec_image.specs.CrashLaws.{PrefixesStay};
 
 /// A kind of images: as what each opens.
 pub trait Stops {
@@ -10,6 +10,6 @@ pub trait Stops {
 }
 
 /// What opens as a prefix of a run opens as a prefix of a longer one.
-pub fn prefixes_go_on<I: Stops>()
-    ensures { PrefixesGoOn I.opens }
+pub fn prefixes_stay<I: Stops>()
+    ensures { PrefixesStay I.opens }
 {}

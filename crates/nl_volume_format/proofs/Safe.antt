@@ -2,7 +2,7 @@
 use Rattle.std.proofs.Common.{◌≡◌, ◌⊎◌, inl, inr}
 use Rattle.nl_field.specs.Page.{erased, page_at, uncorrectable, written}
 use Rattle.nl_spec_image.specs.Formatted.{formatted_root, formatted_super}
-use Rattle.nl_spec_image.proofs.FormattedProofs.{formatted_is_sound}
+use Rattle.nl_spec_image.proofs.FormattedProofs.{formatted_is_consistent}
 use Rattle.nl_volume_format.specs.Making.{MakingsAreSafe, OpensAsNew}
 use Rattle.nl_volume_format.proofs.Damaged.{damaged_at_super}
 use Rattle.nl_volume_format.proofs.ReadableOnes.{none_readable, root_alone}
@@ -17,7 +17,7 @@ makings_are_safe blocks pages image legal begun = by begun.root begun.numbers
         → (page_at image 1 ≡ erased) ⊎ ((page_at image 0 ≡ written formatted_root) × ((page_at image 1 ≡ uncorrectable) ⊎ (page_at image 1 ≡ written (formatted_super blocks pages)))) → OpensAsNew image
     by root (inr (written_root, inl cut)) = alone written_root (inr cut)
     by root (inr (written_root, inr numbers)) =
-        inr (inr (formatted_is_sound blocks pages image begun.whole begun.same_blocks begun.same_pages legal (record { root = written_root; numbers = numbers; others = begun.others })))
+        inr (inr (formatted_is_consistent blocks pages image begun.whole begun.same_blocks begun.same_pages legal (record { root = written_root; numbers = numbers; others = begun.others })))
     by (inl none) (inl e) = inl (none_readable blocks pages image begun (inl none) (inl e))
     by (inr (inl cut)) (inl e) = inl (none_readable blocks pages image begun (inr cut) (inl e))
     by (inr (inr root)) (inl e) = alone root (inl e)

@@ -15,7 +15,7 @@ returns-in-Found-clause-ended g c =
     let middle = medium (g.M.Nand.geometry checked) (g.M.Nand.contents checked) (g.M.Nand.clock checked) (g.M.Nand.read_faults checked) (g.M.Nand.write_faults checked) in
     let after = medium (g.M.Nand.geometry end.result.media) (g.M.Nand.contents end.result.media) (g.M.Nand.clock end.result.media) (g.M.Nand.read_faults end.result.media) (g.M.Nand.write_faults end.result.media) in
     let same = ap (λ m. medium (g.M.Nand.geometry m) (g.M.Nand.contents m) (g.M.Nand.clock m) (g.M.Nand.read_faults m) (g.M.Nand.write_faults m)) end.ensures.media in
-    check_found c.walk_is_soundness.ensures g.M.Nand.tells c.in-Found.bits c.in-Found.count c.faults_of-before.result.reads c.faults_of-before.result.writes
+    check_found c.walk_finds_consistency.ensures g.M.Nand.tells c.in-Found.bits c.in-Found.count c.faults_of-before.result.reads c.faults_of-before.result.writes
     (stream (g.K.Sink.taken c.args.sink.now) (g.K.Sink.faults c.args.sink.now)) (stream (g.K.Sink.taken end.new.sink) (g.K.Sink.faults end.new.sink))
     before middle after end.result.order.items end.result.syncs.items end.result.status
     c.faults_of-before.ensures.0 c.faults_of-before.ensures.1 same

@@ -23,7 +23,7 @@ use Rattle.nl_meta.proofs.Lists.{some_in}
 use Rattle.nl_meta.proofs.WalkProofs.{walk_is_consistency}
 use Rattle.nl_test_spec_image.specs.Trees.{hello, tree_with_a}
 use Rattle.nl_spec_image.specs.Stands.{bytes_found, ImageRepresents}
-use Rattle.nl_spec_image.proofs.SoundProofs.{metadata_stands}
+use Rattle.nl_spec_image.proofs.SoundProofs.{metadata_represents}
 use Rattle.nl_test_spec_image.proofs.trees.a_stands.Goals as goal
 
 abbrev graph : Graph
@@ -74,7 +74,7 @@ found : Consistent (image_of_a hello_page)
 found = (walk_is_consistency (image_of_a hello_page)).0 no_fault
 
 some_tree : (tree : Tree) × ImageRepresents (image_of_a hello_page) found.metadata.super_rec.count tree
-some_tree = metadata_stands (image_of_a hello_page) is_whole found.metadata
+some_tree = metadata_represents (image_of_a hello_page) is_whole found.metadata
 
 pub returns : goal.returns
 returns c = record {

@@ -7,11 +7,11 @@ use Rattle.nl_meta.specs.Walk.{walk}
 use Rattle.nl_meta.proofs.OnLiterals.{meta_on_literals}
 use Rattle.nl_meta.proofs.Lists.{none_some}
 use Rattle.nl_spec_image.specs.Stands.{IsConsistentImage}
-use Rattle.nl_spec_image.proofs.SoundProofs.{walk_is_soundness}
+use Rattle.nl_spec_image.proofs.SoundProofs.{walk_finds_consistency}
 use Rattle.nl_test_spec_image.proofs.trees.damaged.Goals as goal
 
 at_fault : (image : Image) (place : Place) → walk image ≡ Some place → IsConsistentImage image → ⊥
-at_fault image place e s = none_some place (sym ((walk_is_soundness image s.2.stands.pages_whole).1 s) ∙ e)
+at_fault image place e s = none_some place (sym ((walk_finds_consistency image s.2.stands.pages_whole).1 s) ∙ e)
 
 no_page : walk (image_of_a uncorrectable) ≡ Some (record { place = 1; what = Pointer })
 unfolding meta_on_literals

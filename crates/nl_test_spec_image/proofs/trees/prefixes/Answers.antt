@@ -3,7 +3,7 @@ use Rattle.nl_field.specs.Examples.{fresh_image}
 use Rattle.nl_tree.specs.Order.{durable_prefix}
 use Rattle.nl_tree.proofs.OnLiterals.{tree_on_literals}
 use Rattle.nl_spec_image.proofs.FreshImage.{fresh_stands}
-use Rattle.nl_spec_image.proofs.SoundProofs.{stands_for_one}
+use Rattle.nl_spec_image.proofs.SoundProofs.{represents_one}
 use Rattle.nl_test_spec_image.proofs.trees.prefixes.Goals as goal
 
 pub returns-clause-none : goal.returns-clause-none
@@ -19,7 +19,7 @@ unfolding tree_on_literals
 one_safe = refl
 
 pub returns-clause-synced : goal.returns-clause-synced
-returns-clause-synced c o = none o.prefix (durable_prefix (record { upto = 1; moment = 5 } ∷ []) 0 5) one_safe o.holds_synced (stands_for_one fresh_image o.prefix 0 _ _ o.sound.stands fresh_stands.stands).0
+returns-clause-synced c o = none o.prefix (durable_prefix (record { upto = 1; moment = 5 } ∷ []) 0 5) one_safe o.holds_synced (represents_one fresh_image o.prefix 0 _ _ o.sound.stands fresh_stands.stands).0
   where
     none : (p d : ℕ) → d ≡ 1 → d ≤ p → p ≡ 0 → ⊥
     none p d e h f = omega arith

@@ -4,7 +4,7 @@ use Rattle.nl_nand.specs.ImageLaws.{filled_cut}
 use Rattle.nl_nand.specs.Nand.{Cut, Filled, ImageOf, IsBlank}
 use Rattle.nl_nand.specs.declared.geometry.Geometry.{Geometry}
 use Rattle.nl_spec_image.specs.Formatted.{formatted_root, formatted_super}
-use Rattle.nl_spec_image.proofs.FormattedProofs.{formatted_is_sound}
+use Rattle.nl_spec_image.proofs.FormattedProofs.{formatted_is_consistent}
 use Rattle.nl_spec_image.proofs.FreshProofs.{limits}
 use Rattle.nl_volume_format.proofs.Begun.{HasRoot, blank_begun, root_cut, root_filled, rooted_begun, super_cut, super_filled}
 use Rattle.nl_volume_format.proofs.Safe.{makings_are_safe}
@@ -42,7 +42,7 @@ returns-in-Done-program-2-clause-stands g c = λ t.
     let numbers : Geometry = record { blocks = c.args.blocks; pages = c.args.pages } in
     let same : g.M.Nand.geometry c.program-2.new.self ≡ numbers = c.in-Done-program-2.ensures.counted.same_geometry ∙ (c.in-Done-program.ensures.counted.same_geometry ∙ c.in-Done.ensures.done refl) in
     let fit : ImageOf numbers i2 = subst (λ (n : Geometry). ImageOf n i2) same (g.met.M.Nand.contents_fit c.program-2.new.self t) in
-    formatted_is_sound c.args.blocks c.args.pages i2 fit.whole fit.blocks fit.pages c.requires
+    formatted_is_consistent c.args.blocks c.args.pages i2 fit.whole fit.blocks fit.pages c.requires
     (super_filled c.args.blocks c.args.pages i1 i2 has (subst (λ (b : PageBytes). Filled 1 2 (written b) i1 i2) c.put_super.ensures (c.in-Done-program-2.ensures.effect t)))
 
 pub returns-in-Done-program-2-clause-left : goal.returns-in-Done-program-2-clause-left

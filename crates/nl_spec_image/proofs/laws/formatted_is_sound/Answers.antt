@@ -1,5 +1,0 @@
-use Rattle.nl_spec_image.proofs.FormattedProofs.{formatted_is_sound}
-use Rattle.nl_spec_image.proofs.laws.formatted_is_sound.Goals as goal
-
-pub returns : goal.returns
-returns c = formatted_is_sound

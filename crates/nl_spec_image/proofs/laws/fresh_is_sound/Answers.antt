@@ -1,5 +1,0 @@
-use Rattle.nl_spec_image.proofs.FreshProofs.{fresh_is_sound}
-use Rattle.nl_spec_image.proofs.laws.fresh_is_sound.Goals as goal
-
-pub returns : goal.returns
-returns c = fresh_is_sound
