@@ -1,5 +1,5 @@
 -- A Free block that was taken for copies.
-use Rattle.std.proofs.Common.{◌≡◌, inl, ⊎_elim, ℕ, ◌+◌, ◌-◌, ◌*◌, ◌/◌, ◌%◌, ◌<◌, ◌≤◌, ◌&&◌, not, Bool, true, false, Option, Some, None, length, get_or, is_some, refl, sym, ◌∙◌, ap, subst, arith}
+use Rattle.std.proofs.Common.{◌≡◌, inl, inr, ⊎_elim, ℕ, ◌+◌, ◌-◌, ◌*◌, ◌/◌, ◌%◌, ◌<◌, ◌≤◌, ◌&&◌, not, Bool, true, false, Option, Some, None, length, get_or, is_some, refl, sym, ◌∙◌, ap, subst, arith}
 use Rattle.std.specs.Vec.{with_item}
 use Rattle.std.proofs.lemmas.Bool.{cases_eq, true≢false}
 use Rattle.std.proofs.lemmas.List.{get_or-set_other}
@@ -9,17 +9,19 @@ use Rattle.nl_blocks.specs.declared.states.BlockState.TheVariants.{Target, Victi
 use Rattle.nl_blocks.specs.Table.{Table, HasBlock, HasPage, IsBlockTable, block_at, dead_count, free_count, is_dead_state, new_page, page_at}
 use Rattle.nl_blocks.proofs.TableLaws.{page_in}
 use Rattle.nl_blocks.proofs.TableProofs.{row_size}
-use Rattle.nl_pseg.specs.Segment.{Physical, IsNextToProgram, IsNextCopy, held_at, soiled, wear_with, wear_of}
+use Rattle.nl_pseg.specs.Segment.{Physical, IsNextToProgram, IsNextCopy, IsUnspent, held_at, soiled, wear_with, wear_of}
 use Rattle.nl_pseg.specs.Seen.{HasPhases, IsPhysicalFormed, IsNamed, IsTied, seen}
 use Rattle.nl_pseg.specs.Space.{dead_in, gain_of, left_in_victim}
 use Rattle.nl_pseg.specs.Steps.{IsReadied, IsTargeted, aimed_at}
+use Rattle.nl_pseg.specs.Tries.{GivesNoOther}
 use Rattle.nl_pseg_blocks.specs.Uses.{Use, use_in, SetsUse, SameMarks, SameNumbers, SameUse}
 use Rattle.nl_pseg.specs.declared.held.Held.{Held}
 use Rattle.nl_pseg.specs.Kept.{Kept}
 use Rattle.nl_pseg.proofs.Numbers.{block_of}
 use Rattle.nl_pseg.proofs.Rows.{dead_here, num, sum_same, waiting_same, waiting_used, waits}
-use Rattle.nl_pseg_blocks.proofs.Tables.{has_same}
+use Rattle.nl_pseg_blocks.proofs.Tables.{free_kept, has_same}
 use Rattle.nl_pseg.proofs.Taken.{free_other}
+use Rattle.nl_pseg.proofs.Tries.{taken_here, taken_kept, taken_page, unspent_others}
 use Rattle.nl_pseg.proofs.Tied.{back, named_on}
 use Rattle.std.proofs.lemmas.Nat.{mod-mul-add}
 use Rattle.nl_pseg.proofs.Wearing.{taken_wear, taken_counts, counts_same}
@@ -179,8 +181,24 @@ module _ (s : Kept) (is : IsPhysicalFormed s) (tied : IsTied s) (t : Table) (blo
             (λ at. absurd (true≢false (sym now ∙ (ap (λ m. (use_in t m).is_kept) at ∙ ap (λ (u : Use). u.is_kept) r.here))))
             (λ ne. ap is_some (get_or-set_other s.soiled.items block b None None ne) ∙ clean b (sym (ap (λ (u : Use). u.is_kept) (r.others b ne)) ∙ now))
             (cases_eq b block);
+        first = inr (omega (arith, full), ap (λ b. (use_in s.blocks b).is_free) (at_block (block * t.size) (omega arith) (let e = n.same_size in let some = is.some in omega (arith, e, some))) ∙ free);
+        others = given;
       }
     where
+      at_block : (p : ℕ) → block * t.size ≤ p → p < block * t.size + t.size → p / s.blocks.size ≡ block
+      at_block p from below = ap (λ m. p / m) (sym r.numbers.same_size) ∙ block_of p t.size block from below
+
+      given : GivesNoOther (seen s) (aimed_at (seen (record s { blocks = t })) block)
+      given p (inl (inl next)) =
+          let e = r.numbers.same_size in
+          let a : s.active * t.size ≡ s.active * s.blocks.size = ap (λ m. s.active * m) e in
+          inl (inl (inl (omega (arith, a, next.0), omega (arith, a, e, next.1))))
+      given p (inl (inr k)) =
+          inl (taken_kept (seen s) (aimed_at (seen (record s { blocks = t })) block) (aimed_at (seen (record s { blocks = t })) block) block r.numbers.same_size free (free_kept s.blocks block free) (ap (λ (u : Use). u.is_free) r.here) (ap (λ (u : Use). u.is_kept) r.here) r.others refl p k.0 k.1)
+      given p (inr copy) =
+          taken_page (seen s) (aimed_at (seen (record s { blocks = t })) block) (aimed_at (seen (record s { blocks = t })) block) block r.numbers.same_size free (free_kept s.blocks block free) (ap (λ (u : Use). u.is_free) r.here) (ap (λ (u : Use). u.is_kept) r.here) r.others refl p (at_block p copy.0 copy.1)
+          (taken_here (seen s) (aimed_at (seen (record s { blocks = t })) block) (aimed_at (seen (record s { blocks = t })) block) block r.numbers.same_size free (free_kept s.blocks block free) (ap (λ (u : Use). u.is_free) r.here) (ap (λ (u : Use). u.is_kept) r.here) r.others refl)
+
       not_waiting : (u : Use) → u.is_free ≡ true → num (waits u) ≡ 0
       not_waiting u yes_free = ap (λ f. num (u.is_kept && not f)) yes_free ∙ none u.is_kept
         where
@@ -190,6 +208,20 @@ module _ (s : Kept) (is : IsPhysicalFormed s) (tied : IsTied s) (t : Table) (blo
 
 -- the block is Free again
 module _ (s : Kept) (is : IsPhysicalFormed s) (tied : IsTied s) (t : Table) (is_a : IsBlockTable s.blocks) (is_b : IsBlockTable t) (same : SameUse s.blocks t) (marks : SameMarks s.blocks t) where
+  pub again_unspent : IsUnspent (seen s) (seen (record s { blocks = t }))
+  again_unspent =
+      let n = same.numbers in
+      record {
+        next = λ i. s.active * n.same_size i + s.used;
+        left = λ i. n.same_size i - s.used;
+        free = same.total;
+        same_free = λ b. ap (λ (u : Use). u.is_free) (same.uses b);
+        same_kept = λ b. ap (λ (u : Use). u.is_kept) (same.uses b);
+        same_erasures = λ b. ap (λ (u : Use). u.wear) (same.uses b);
+        same_soiled = λ b. refl;
+        copies = (λ i. s.target * n.same_size i + s.filled, λ i. n.same_size i - s.filled);
+      }
+
   pub again_readied : IsReadied (seen s) (seen (record s { blocks = t }))
   again_readied =
       let n = same.numbers in
@@ -210,24 +242,6 @@ module _ (s : Kept) (is : IsPhysicalFormed s) (tied : IsTied s) (t : Table) (is_
         fewer = let e = same.total in omega (arith, e);
         most = let e = same.total in omega (arith, e);
         clean = λ clean b now. clean b (sym (ap (λ (u : Use). u.is_kept) (same.uses b)) ∙ now);
+        first = inl (λ i. s.target * n.same_size i + s.filled, λ i. n.same_size i - s.filled);
+        others = unspent_others n.same_size again_unspent;
       }
-
--- nothing was to be done
-pub still_readied : (seg : Physical) → IsReadied seg seg
-still_readied seg = record {
-  pages = record { same_first = refl; same_blocks = refl; same_size = refl; same_wear = λ b. refl };
-  held = refl;
-  pairs = refl;
-  pair_room = refl;
-  victim = refl;
-  next = (refl, refl);
-  waits = refl;
-  left = refl;
-  gain = refl;
-  lands = refl;
-  frees = λ b free. free;
-  wears = record { each = λ b. inl (refl, refl) };
-  fewer = omega arith;
-  most = omega arith;
-  clean = λ clean. clean;
-}

@@ -24,6 +24,7 @@ mod Looked
 mod Released
 mod Erasing
 mod Aimed
+pub mod Tries
 mod Readied
 mod CopyUsed
 mod Led

@@ -1,5 +1,5 @@
 -- What a move and its steps do, by their answer.
-use Rattle.std.proofs.Common.{◌≡◌, ⊎_elim, inr, ℕ, ◌/◌, List, None, Some, refl, sym, ◌∙◌, ap, subst}
+use Rattle.std.proofs.Common.{◌≡◌, ⊎_elim, inr, ℕ, ◌/◌, ◌<◌, false, List, Option, None, Some, get_or, refl, sym, ◌∙◌, ap, subst}
 use Rattle.nl_field.specs.Page.{Image, page_at, written}
 use Rattle.nl_nand.specs.declared.answers.WriteAnswer.TheVariants as wrote
 use Rattle.nl_pseg_pages.specs.Pages.{main_of, page_with}
@@ -10,7 +10,7 @@ use Rattle.nl_pseg.specs.Effects.{Crashes, PageIsProgrammed}
 use Rattle.nl_pseg.specs.Kept.{Kept}
 use Rattle.nl_pseg.specs.Moving.{LandsPage, MovesOn, MovesPageOrNone}
 use Rattle.nl_pseg.specs.Seen.{IsTied, seen}
-use Rattle.nl_pseg.specs.Segment.{CanSpareBlock, InVictim, IsDead, IsPhysicalOf, KeepsBlock, Physical, held_at, wear_of}
+use Rattle.nl_pseg.specs.Segment.{CanSpareBlock, InVictim, IsDead, IsNextToProgram, IsPhysicalOf, KeepsBlock, Physical, held_at, is_kept, wear_of}
 use Rattle.nl_pseg.specs.Space.{HasFewPairs}
 use Rattle.nl_pseg.specs.Steps.{IsAlone, IsCopyUsed, IsLed, IsReadied, ReadiedOn}
 use Rattle.nl_pseg.specs.declared.cleaned.Copied.{Copied}
@@ -18,6 +18,7 @@ use Rattle.nl_pseg.specs.declared.cleaned.Copied.TheVariants as copy
 use Rattle.nl_pseg.specs.declared.held.Held.{Held}
 use Rattle.nl_pseg.proofs.Apart.{fault_lost, nothing_lost}
 use Rattle.nl_pseg.proofs.Moved.{moved, moved_clean, moved_few, moved_room, moves_then, none_then, readied_dead, readied_none, still_none, unmoved, unmoved_clean, unmoved_few, unmoved_room}
+use Rattle.nl_pseg.proofs.Tries.{copied_given, copied_tries, led_given}
 use Rattle.nl_pseg.proofs.MoveSteps.{if_moved, landed_programmed, moved_if, moved_or_not}
 
 -- no page was moved
@@ -66,19 +67,30 @@ moves_copied {seg} n page h answer tied victim live m = record {
 }
 
 -- the program of the copy failed
-pub landed_none : {seg new : Physical} (page : ℕ) (h : Held) → IsCopyUsed None seg new → IsDead seg seg.copy_next → LandsPage page h copy.Fault seg new
-landed_none page h used dead = record { moved = tt; kept = λ not. (refl, unmoved used dead.dead); same_room = unmoved_room used; clean = unmoved_clean used }
+pub landed_none : {seg new : Physical} (page : ℕ) (h : Held) → IsCopyUsed None seg new → 0 < seg.copy_left → is_kept seg (seg.copy_next / seg.size) ≡ false → (IsNextToProgram seg seg.copy_next → ⊥) → IsDead seg seg.copy_next → LandsPage page h copy.Fault seg new
+landed_none page h used some in_use apart dead = record {
+  moved = tt;
+  kept = λ not. (refl, unmoved used dead.dead);
+  same_room = unmoved_room used;
+  clean = unmoved_clean used;
+  tried = copied_tries used some in_use apart;
+  others = copied_given used;
+  same_soiled = λ b. ap (λ (l : List (Option ℕ)). get_or l b None) used.soiled;
+}
 
 -- the copy was programmed, and the names lead to it
-pub landed_moved : {seg mid new : Physical} (page after : ℕ) (h : Held) → after ≡ seg.copy_next → IsCopyUsed (Some h) seg mid → IsLed page after mid new → InVictim seg page → held_at seg page ≡ Some h → IsDead seg seg.copy_next
+pub landed_moved : {seg mid new : Physical} (page after : ℕ) (h : Held) → after ≡ seg.copy_next → IsCopyUsed (Some h) seg mid → IsLed page after mid new → InVictim seg page → held_at seg page ≡ Some h → 0 < seg.copy_left → is_kept seg (seg.copy_next / seg.size) ≡ false → (IsNextToProgram seg seg.copy_next → ⊥) → IsDead seg seg.copy_next
     → LandsPage page h (copy.Moved page after h.tag h.stamp) seg new
-landed_moved {seg} {mid} {new} page after h at used at_after victim live dead =
+landed_moved {seg} {mid} {new} page after h at used at_after victim live some in_use apart dead =
     let led : IsLed page seg.copy_next mid new = subst (λ n. IsLed page n mid new) at at_after in
     record {
       moved = (refl, at, refl, subst (λ n. MovesLivePage page n h seg new) (sym at) (moved used led victim live dead));
       kept = λ not. absurd (not tt);
       same_room = moved_room used led;
       clean = moved_clean used led;
+      tried = let t = copied_tries used some in_use apart in record { first = t.first; spent = λ given. t.spent (led_given led seg.copy_next given) };
+      others = λ p given. copied_given used p (led_given led p given);
+      same_soiled = λ b. ap (λ (l : List (Option ℕ)). get_or l b None) (led.soiled ∙ used.soiled);
     }
 
 pub landed_few : {page : ℕ} {h : Held} (answer : Copied) {seg new : Physical} → LandsPage page h answer seg new → HasFewPairs seg → HasFewPairs new

@@ -19,6 +19,7 @@ use Rattle.nl_pseg.proofs.Ended.{ended_was, few_on, gone_kept, gone_pages, gone_
 use Rattle.nl_pseg.proofs.Holds.{holds_whole}
 use Rattle.nl_pseg.proofs.Lefts.{left_is, live_ended, live_of, live_same}
 use Rattle.nl_pseg.proofs.Segments.{pages_then}
+use Rattle.nl_pseg.proofs.Tries.{ended_spends}
 use Rattle.nl_pseg.proofs.Waits.{waiting_same}
 use Rattle.nl_pseg.proofs.Wrote.{free_spare, placed_cleaning, placed_few, placed_lands, placed_same, placed_spare, placed_spares, some_lands, still_page}
 use Rattle.nl_pseg.proofs.Wearing.{counts_after}
@@ -204,6 +205,7 @@ module _ (answer : Named) (place stamp : ℕ) (x : Option Held) (s n : Kept) (is
     same_pairs = λ not. (only not).names.same_pairs;
     same_cleaning = λ not. refused_cleaning not;
     failed = over_failed;
+    tried = ended_spends answer o.ended o.none o.placing.tried;
     clean = over_clean;
     kept = over_kept;
     wears = over_wears;

@@ -1,5 +1,5 @@
 -- How a page is placed: a block is opened, and its next page is used.
-use Rattle.std.proofs.Common.{◌≡◌, ◌⊎◌, inl, inr, ⊎_elim, ℕ, true, ◌+◌, ◌-◌, ◌*◌, ◌/◌, ◌<◌, ◌≤◌, nat_le, cond, Option, Some, None, Contains, List, get_or, set, refl, sym, ◌∙◌, ap, subst, arith, is_some}
+use Rattle.std.proofs.Common.{◌≡◌, ◌⊎◌, inl, inr, ⊎_elim, ℕ, true, false, ◌+◌, ◌-◌, ◌*◌, ◌/◌, ◌<◌, ◌≤◌, nat_le, cond, Option, Some, None, Contains, List, get_or, set, refl, sym, ◌∙◌, ap, subst, arith, is_some}
 use Rattle.std.proofs.lemmas.Bool.{cond-true, cond-false, le-leb}
 use Rattle.std.proofs.lemmas.List.{get_or-set_other, set-get_or}
 use Rattle.std.proofs.lemmas.Bool.{cases_eq, true≢false}
@@ -14,13 +14,15 @@ use Rattle.nl_nand.proofs.Crashes.{turns_later, weaken}
 use Rattle.nl_pseg.specs.Answers.{IfPlaced, IsPlaced}
 use Rattle.nl_pseg.specs.Effects.{Crashes, PreservesSegment, PlacesOnImage, PageIsProgrammed, TakesImagePage}
 use Rattle.nl_pseg_pages.specs.Pages.{page_with, shown_by}
-use Rattle.nl_pseg.specs.Segment.{Physical, IsClean, IsDead, IsNextToProgram, IsSpent, is_waiting, IsPhysicalOf, KeepsBlock, SameNames, SameBlocksAndPages, held_at, is_free, is_kept, is_soiled, room, soiled, wear_of}
+use Rattle.nl_pseg.specs.Segment.{Physical, IsClean, IsDead, IsNextCopy, IsNextToProgram, IsSpent, is_waiting, IsPhysicalOf, KeepsBlock, SameNames, SameBlocksAndPages, held_at, is_free, is_kept, is_soiled, room, soiled, wear_of}
 use Rattle.nl_pseg_blocks.specs.Uses.{Use}
 use Rattle.nl_pseg.specs.Steps.{IsAlone, OpensFreeBlock, UsesNextPage, OpensForProgram, OpeningOn, Placing}
 use Rattle.nl_pseg.specs.Writes.{ProgramsOn, WritesOn}
 use Rattle.nl_pseg.specs.declared.held.Held.{Held}
 use Rattle.nl_pseg.proofs.Images.{keeps_then, takes_then}
 use Rattle.nl_pseg.proofs.Gone.{waits}
+use Rattle.nl_pseg.proofs.Tries.{opened_others, opened_tries, still_others, unspent_others, used_others, used_tries}
+use Rattle.nl_pseg.specs.Tries.{TriesForName}
 use Rattle.nl_pseg.proofs.Medium.{nothing_crashes}
 use Rattle.nl_pseg.proofs.Waits.{wait_by, wait_free, wait_not}
 use Rattle.nl_pseg.proofs.Segments.{pages_back, pages_then, range_of, within_same}
@@ -80,14 +82,15 @@ module _ {x : Option Held} {seg new : Physical} (u : UsesNextPage x seg new) (so
   pub used_kept : KeepsBlock seg → KeepsBlock new
   used_kept k = kept_same u.pages u.names (λ b. ap (λ (w : Use). w.is_kept) (u.uses b)) k
 
-pub used_failed : {seg new : Physical} (stamp : ℕ) (now : Pointer → List (Option Held)) → UsesNextPage None seg new → 0 < seg.left → held_at seg seg.next ≡ None → Placing stamp now the.Fault seg new
-used_failed {seg} {new} stamp now u some dead = record {
+pub used_failed : {seg new : Physical} (stamp : ℕ) (now : Pointer → List (Option Held)) → UsesNextPage None seg new → 0 < seg.left → is_kept seg (seg.next / seg.size) ≡ false → (IsNextCopy seg seg.next → ⊥) → held_at seg seg.next ≡ None → Placing stamp now the.Fault seg new
+used_failed {seg} {new} stamp now u some in_use apart dead = record {
   pages = u.pages;
   placed = tt;
   held = tt;
   same = λ not. u.held ∙ (ap (set seg.held seg.next) (sym dead) ∙ set-get_or seg.held seg.next None);
   spent = λ placed. absurd placed;
   failed = λ fault. inl (used_spent u some);
+  tried = record { placed = tt; failed = λ fault. inl (seg.next, used_tries u some in_use apart); others = used_others u some in_use apart };
   clean = used_clean u some;
   waits = used_waits u some;
   frees = inl (u.free, used_next u some, tt);
@@ -96,15 +99,16 @@ used_failed {seg} {new} stamp now u some dead = record {
   names = u.names;
 }
 
-pub used_placed : {h : Held} {seg new : Physical} (page stamp : ℕ) → page ≡ seg.next → UsesNextPage (Some h) seg new → 0 < seg.left → IsDead seg page
+pub used_placed : {h : Held} {seg new : Physical} (page stamp : ℕ) → page ≡ seg.next → UsesNextPage (Some h) seg new → 0 < seg.left → is_kept seg (seg.next / seg.size) ≡ false → (IsNextCopy seg seg.next → ⊥) → IsDead seg page
     → Placing stamp (λ at. set seg.held at.name (Some h)) (the.Placed (record { name = page; stamp = stamp })) seg new
-used_placed {h} {seg} {new} page stamp at u some dead = record {
+used_placed {h} {seg} {new} page stamp at u some in_use apart dead = record {
   pages = u.pages;
   placed = (dead, refl);
   held = u.held ∙ ap (λ n. set seg.held n (Some h)) (sym at);
   same = λ not. absurd (not tt);
   spent = λ placed. used_spent u some;
   failed = λ fault. absurd (cc fault);
+  tried = record { placed = subst (λ n. TriesForName n seg new) (sym at) (used_tries u some in_use apart); failed = λ fault. absurd (cc fault); others = used_others u some in_use apart };
   clean = used_clean u some;
   waits = used_waits u some;
   frees = inl (u.free, used_next u some, (omega (arith, at), omega (arith, at, some)));
@@ -199,6 +203,11 @@ module _ {block : ℕ} {seg mid : Physical} (o : OpensFreeBlock block seg mid) w
     same = λ not. p.same not ∙ o.held;
     spent = λ placed. opened_spent some (p.spent placed);
     failed = λ failed. inl (opened_spent some (⊎_elim (λ spent. spent) (λ x. absurd (x.1 (inl ready))) (p.failed failed)));
+    tried = record {
+      placed = if_placed answer (λ at t. opened_tries o some p.wears at.name t) p.tried.placed;
+      failed = λ failed. ⊎_elim (λ t. inl (t.0, opened_tries o some p.wears t.0 t.1)) (λ x. absurd (x.1 (inl ready))) (p.tried.failed failed);
+      others = opened_others o some p.wears p.tried.others;
+    };
     clean = λ clean. p.clean (opened_clean clean);
     waits = λ b. p.waits b ∙ opened_waits b;
     frees = inr (⊎_elim (λ same. let e = same.0 in let a = o.some in omega (arith, e, a)) (λ some. some) p.frees);
@@ -278,6 +287,7 @@ opening_failed {seg} {new} stamp now x = record {
   same = λ not. x.1;
   spent = λ placed. absurd placed;
   failed = λ fault. inr (x.2, x.3);
+  tried = record { placed = tt; failed = λ fault. inr (x.2, x.3); others = unspent_others x.0.same_size x.2 };
   clean = λ clean b free. ap is_some (x.2.same_soiled b) ∙ clean b (sym (x.2.same_kept b) ∙ free);
   waits = λ b. wait_by seg new b (x.2.same_free b) (x.2.same_kept b);
   frees = inl (x.2.free, (λ p next. let a = x.2.next in let l = x.2.left in (omega (arith, a, next.0), omega (arith, a, l, next.1))), tt);
@@ -317,6 +327,7 @@ nothing_placed answer stamp now seg not no_fault = record {
   same = λ n. refl;
   spent = λ placed. absurd (not placed);
   failed = λ fault. absurd (no_fault fault);
+  tried = record { placed = if_none answer _ not; failed = λ fault. absurd (no_fault fault); others = still_others seg };
   clean = λ clean. clean;
   wears = record { each = λ b. inl (refl, refl) };
   waits = λ b. refl;

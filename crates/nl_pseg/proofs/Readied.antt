@@ -18,6 +18,7 @@ use Rattle.nl_pseg.proofs.Segments.{unspent_taken}
 use Rattle.nl_pseg.proofs.States.{next_block}
 use Rattle.nl_pseg_blocks.proofs.Tables.{free_kept}
 use Rattle.nl_pseg.proofs.Taken.{free_other}
+use Rattle.nl_pseg.proofs.Tries.{still_others}
 
 -- a block takes copies already
 pub still_readied : (seg : Physical) → IsReadied seg seg
@@ -37,6 +38,8 @@ still_readied seg = record {
   fewer = omega arith;
   most = omega arith;
   clean = λ clean. clean;
+  first = inl (refl, refl);
+  others = still_others seg;
 }
 
 module _ (s : Kept) (is : IsPhysicalFormed s) (block : ℕ) (has : HasBlock s.blocks block) (free : (use_in s.blocks block).is_free ≡ true) where

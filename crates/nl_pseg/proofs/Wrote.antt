@@ -161,6 +161,7 @@ module _ (answer : Named) (stamp : ℕ) (x : Option Held) (s n : Kept) (is : IsP
     same_pairs = λ not. p.names.same_pairs;
     same_cleaning = λ not. placed_cleaning;
     failed = p.failed;
+    tried = p.tried;
     clean = p.clean;
     kept = p.kept;
     wears = p.wears;

@@ -6,6 +6,7 @@ pub mod Segment
 pub mod Space
 pub mod Cleaning
 pub mod Copies
+pub mod Tries
 pub mod Seen
 pub mod Steps
 pub mod Opened

@@ -6,8 +6,9 @@ use Rattle.nl_pseg.specs.Cleaning.{IfMoved, IsMoved, MovesLivePage, MovesNone, p
 use Rattle.nl_pseg.specs.Effects.{Crashes, PageIsProgrammed}
 use Rattle.nl_pseg.specs.Kept.{Kept}
 use Rattle.nl_pseg.specs.Seen.{IsPhysicalFormed, IsTied, seen}
-use Rattle.nl_pseg.specs.Segment.{CanSpareBlock, IsClean, IsPhysicalOf, Physical, room, wear_of}
+use Rattle.nl_pseg.specs.Segment.{CanSpareBlock, IsClean, IsPhysicalOf, Physical, room, soiled, wear_of}
 use Rattle.nl_pseg.specs.Space.{HasFewPairs}
+use Rattle.nl_pseg.specs.Tries.{CanBeGiven, TriesForCopy}
 use Rattle.nl_pseg.specs.declared.cleaned.Copied.{Copied}
 use Rattle.nl_pseg.specs.declared.cleaned.Copied.TheVariants as copy
 use Rattle.nl_pseg.specs.declared.held.Held.{Held}
@@ -24,6 +25,9 @@ pub record LandsPage (page : ℕ) (h : Held) (answer : Copied) (old new : Physic
   pub kept : (IsMoved answer → ⊥) → (answer ≡ copy.Fault) × MovesNone old new
   pub same_room : room new ≡ room old
   pub clean : IsClean old → IsClean new
+  pub tried : TriesForCopy old.copy_next old new
+  pub others : (p : ℕ) → CanBeGiven new p → CanBeGiven old p
+  pub same_soiled : (block : ℕ) → soiled new block ≡ soiled old block
 
 -- This live page of the victim was moved, or none was. `Lost` comes with its number, and another one, which was found.
 pub record MovesPageOrNone (page : ℕ) (h : Held) (answer : Copied) (old new : Physical) : Type 0 where

@@ -17,6 +17,7 @@ use Rattle.nl_pseg.specs.Seen.{IsTied}
 use Rattle.nl_pseg_blocks.specs.Uses.{IsPut, SetsUse, aside_state, use_at, use_in}
 use Rattle.nl_pseg.specs.declared.held.Held.{Held}
 use Rattle.nl_pseg.specs.Kept.{Kept}
+use Rattle.nl_pseg.specs.Tries.{GivesNoOther, SpendsTried}
 
 -- two segments have the same blocks and pages
 pub record SameRange (old new : Physical) : Type 0 where
@@ -214,6 +215,7 @@ pub record Placing (stamp : ℕ) (now : Pointer → List (Option Held)) (answer 
   pub same : (IsPlaced answer → ⊥) → new.held ≡ old.held
   pub spent : IsPlaced answer → IsSpent old new
   pub failed : IsWriteFault answer → IsSpent old new ⊎ (IsUnspent old new × (NeedsNoErase old → ⊥))
+  pub tried : SpendsTried answer old new
   pub clean : IsClean old → IsClean new
   pub waits : (block : ℕ) → is_waiting new block ≡ is_waiting old block
   pub frees : LeavesFree answer old new
@@ -264,6 +266,9 @@ pub record IsReadied (old new : Physical) : Type 0 where
   pub fewer : new.free ≤ old.free
   pub most : old.free ≤ new.free + 1
   pub clean : IsClean old → IsClean new
+  pub first : ((new.copy_next ≡ old.copy_next) × (new.copy_left ≡ old.copy_left))
+      ⊎ ((old.copy_left ≡ 0) × (is_free old (new.copy_next / old.size) ≡ true))
+  pub others : GivesNoOther old new
 
 -- What was done to the medium to have a page for a copy: the page that the next copy is programmed on is erased, and only pages of
 -- its block have changed, where that had to be erased.

@@ -9,9 +9,11 @@ use Rattle.nl_pseg.specs.Effects.{Crashes, PageIsProgrammed}
 use Rattle.nl_pseg.specs.Segment.{Physical, IsClean, IsDead, IsPhysicalOf, NeedsNoErase, IsSpent, IsUnspent, KeepsBlock, SameBlocksAndPages, CountsErases, room, wear_of, without_target}
 use Rattle.nl_pseg.specs.Space.{HasRoomForVictim, Lessens, SameCleaning, waiting}
 use Rattle.nl_pseg.specs.Steps.{IsAlone}
+use Rattle.nl_pseg.specs.Tries.{SpendsTried}
 
 -- What a write or an overwrite does to the segment. A page that it placed was not live, and has this number. Where it placed none,
--- what is live, the pairs and what is cleaned are as they were; where the medium failed, a page may be lost.
+-- what is live, the pairs and what is cleaned are as they were; where the medium failed, a page may be lost. A page that was tried is
+-- not given out again before its block is erased.
 pub record WritesSegment (stamp : ℕ) (answer : Named) (old new : Physical) : Type 0 where
   pub pages : SameBlocksAndPages old new
   pub placed : IfPlaced answer (λ at. IsDead old at.name × (at.stamp ≡ stamp))
@@ -19,6 +21,7 @@ pub record WritesSegment (stamp : ℕ) (answer : Named) (old new : Physical) : T
   pub same_pairs : (IsPlaced answer → ⊥) → new.pairs ≡ old.pairs
   pub same_cleaning : (IsPlaced answer → ⊥) → SameCleaning old new
   pub failed : IsWriteFault answer → IsSpent old new ⊎ (IsUnspent old new × (NeedsNoErase old → ⊥))
+  pub tried : SpendsTried answer old new
   pub clean : IsClean old → IsClean new
   pub kept : KeepsBlock old → KeepsBlock new
   pub wears : CountsErases old new

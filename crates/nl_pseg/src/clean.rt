@@ -1,5 +1,5 @@
 // What a segment does to be cleaned.
-ghost use Rattle.std.specs.Prelude.{◌≡◌, ◌⊎◌, ℕ, ◌+◌, ◌↔◌, IsTrue};
+ghost use Rattle.std.specs.Prelude.{◌≡◌, ◌⊎◌, ℕ, ◌+◌, ◌<◌, ◌↔◌, IsTrue};
 ghost use Rattle.std.specs.Bool.{OnTrue, OnFalse};
 ghost use Rattle.nl_field.specs.CrashStates.{Rose, saturated};
 ghost use Rattle.nl_field.specs.Page.{Image};
@@ -9,6 +9,7 @@ ghost use Rattle.nl_pseg.specs.Copies.{CopiesOn, CopiesPage, ErasesIfDone, Erase
 ghost use Rattle.nl_pseg.specs.Segment.{CanSpareBlock, IsClean, IsPhysicalOf, KeepsBlock};
 ghost use Rattle.nl_pseg.specs.Seen.{FitsPhysical};
 ghost use Rattle.nl_pseg.specs.Space.{HasRoomForVictim, IsWhole, left_in_victim, victims};
+ghost use Rattle.nl_pseg.specs.Tries.{SpendsTriedCopy};
 
 use crate::cleaned::{Copied, Erasure};
 use crate::pseg::PSeg;
@@ -36,7 +37,8 @@ impl PSeg {
 
     /// Moves one live page of the victim: it is read, and programmed with its owner, its number and its bytes as a copy, to which all
     /// names lead that led to it. `Nothing` exactly where no victim with a live page is in hand; `Lost` only where the page read does
-    /// not hold its number; `Fault` only where the medium failed.
+    /// not hold its number; `Fault` only where the medium failed. The page of a copy whose program failed is not given out again before
+    /// its block is erased.
     pub fn copy_one<M: Nand>(&mut self, media: &mut M, buf: &mut PageBuf) -> Copied
         requires fits { FitsPhysical (M.geometry media.old) self.old }
         requires lands { HasRoomForVictim self.old }
@@ -48,6 +50,7 @@ impl PSeg {
         ensures lands { Rose (M.write_faults media.old) (M.write_faults media.new) ⊎ HasRoomForVictim self.new }
         ensures medium { M.tells → CopiesOn M.clock M.contents M.left result self.old self.new media.old media.new }
         ensures geometry { M.geometry media.new ≡ M.geometry media.old }
+        ensures tried { SpendsTriedCopy result (M.write_faults media.old < M.write_faults media.new) self.old self.new }
         ensures counts { CountedMove M.clock M.read_faults M.write_faults (IsClean self.old) media.old media.new result }
     {
         let copied = self.state.copy_one(media, buf);

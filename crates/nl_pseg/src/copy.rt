@@ -12,9 +12,10 @@ ghost use Rattle.nl_pseg.specs.Copies.{CopiesOn, CopiesPage};
 ghost use Rattle.nl_pseg.specs.Kept.{all_filled, kept};
 ghost use Rattle.nl_pseg.specs.Moving.{IsConsistent, LandsPage, MovesOn, MovesPageOrNone};
 ghost use Rattle.nl_pseg.specs.Seen.{seen, FitsPhysical, IsPhysicalFormed, IsTied};
-ghost use Rattle.nl_pseg.specs.Segment.{CanSpareBlock, InVictim, IsClean, IsPhysicalOf, held_at};
+ghost use Rattle.nl_pseg.specs.Segment.{CanSpareBlock, InVictim, IsClean, IsPhysicalOf, IsUnspent, held_at};
 ghost use Rattle.nl_pseg.specs.Space.{HasRoomForVictim, landing, left_in_victim};
 ghost use Rattle.nl_pseg.specs.Steps.{IsCopyUsed, IsLed, IsReadied, IsTargeted, ReadiedOn, aimed_at};
+ghost use Rattle.nl_pseg.specs.Tries.{CopyNeedsNoErase, SpendsTriedCopy};
 ghost use Rattle.nl_pseg.specs.Writes.{ProgramsOn};
 ghost use Rattle.nl_pseg.specs.declared.held.Held.{Held as HeldOf};
 
@@ -80,6 +81,8 @@ impl State {
         ensures clock { (M.clock media.old ≤ M.clock media.new) × (M.clock media.new ≤ M.clock media.old + 1) }
         ensures read_faults { M.read_faults media.new ≡ M.read_faults media.old }
         ensures write_faults { FaultsCounted (M.write_faults media.old) (M.write_faults media.new) (result ≡ WriteAnswer.Failed) }
+        ensures failed { result ≡ WriteAnswer.Failed → IsUnspent (seen (kept self.old)) (seen (kept self.new))
+            × (CopyNeedsNoErase (seen (kept self.old)) → ⊥) }
     {
         if next_copy(&self.blocks, self.target).is_some() {
             return WriteAnswer::Done;
@@ -228,6 +231,7 @@ impl State {
         ensures medium { M.tells → MovesOn M.clock M.contents M.left before held result (seen (kept self.old))
             (seen (kept self.new)) media.old media.new }
         ensures geometry { M.geometry media.new ≡ M.geometry media.old }
+        ensures tried { SpendsTriedCopy result (M.write_faults media.old < M.write_faults media.new) (seen (kept self.old)) (seen (kept self.new)) }
         ensures counts { CountedMove M.clock M.read_faults M.write_faults (IsClean (seen (kept self.old))) media.old media.new result }
     {
         match read_page(media, before, held.tag, held.stamp, buf) {
@@ -256,6 +260,7 @@ impl State {
         ensures medium { M.tells → CopiesOn M.clock M.contents M.left result (seen (kept self.old))
             (seen (kept self.new)) media.old media.new }
         ensures geometry { M.geometry media.new ≡ M.geometry media.old }
+        ensures tried { SpendsTriedCopy result (M.write_faults media.old < M.write_faults media.new) (seen (kept self.old)) (seen (kept self.new)) }
         ensures counts { CountedMove M.clock M.read_faults M.write_faults (IsClean (seen (kept self.old))) media.old media.new result }
     {
         let _ = self.blocks.count();

@@ -18,6 +18,7 @@ pub mod Shapes
 mod Small
 pub mod Spares
 pub mod Standing
+pub mod Tries
 pub mod Using
 pub mod Views
 pub mod Wears

@@ -24,6 +24,7 @@ use Rattle.nl_vseg.proofs.Copies.{resized}
 use Rattle.nl_vseg.proofs.Counts.{counted_as, counted_then, keeps_from, keeps_no_turn, keeps_turns, takes_from, turns_as}
 use Rattle.nl_vseg.proofs.Operating.{operates_as, operates_both, operates_still}
 use Rattle.nl_vseg.proofs.Small.{shape_of, shape_then}
+use Rattle.nl_vseg.proofs.Tries.{sealed_spends}
 use Rattle.nl_vseg.proofs.Using.{numbered_room, spare_used}
 use Rattle.nl_vseg.proofs.Views.{blank_taken, segment_from, size_from, spare_from, wear_at}
 
@@ -55,6 +56,7 @@ module _ {M : Type 0} (g : Ghosts M) where
           wear = wear s.active ∙ p.rest.wear;
         };
         less = ap (λ n. n + 1) (numbered_room (seen t) table same used_is) ∙ p.less;
+        tried = sealed_spends (seen s) (seen t) (seen (with_table t table)) p.tried same refl used_is refl;
         writes = record {
           stamps = record { taken = p.writes.stamps.taken; same = p.writes.stamps.same };
           value = λ told. let x = p.writes.value told in record { map = x.map; same = x.same; takes = x.takes; either = x.either; unused = x.unused; crash = x.crash };

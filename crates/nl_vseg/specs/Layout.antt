@@ -82,6 +82,9 @@ shown seg = record {
   room = room seg;
   blank = blanks seg;
   wears = wears_of seg.table;
+  next = seg.active * seg.table.size + seg.used;
+  left = seg.table.size - seg.used;
+  soiled = seg.soiled;
 }
 
 -- The image is one of this segment: each place holds its address, and what the segment takes as erased is erased.

@@ -12,5 +12,6 @@ pub mod Putting
 pub mod Seen
 pub mod Segment
 pub mod Storing
+pub mod Tries
 pub mod Used
 pub mod Writes

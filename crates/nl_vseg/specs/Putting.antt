@@ -10,6 +10,7 @@ use Rattle.nl_vseg.specs.Copying.{SameFreeBlocks}
 use Rattle.nl_vseg.specs.Effects.{BlockIsProgrammed}
 use Rattle.nl_vseg.specs.Layout.{LayoutHasUnmapped, SameLayoutShape, bound, room}
 use Rattle.nl_vseg.specs.Seen.{seen, segment_of}
+use Rattle.nl_vseg.specs.Tries.{SpendsNext}
 use Rattle.nl_vseg.specs.Writes.{WritesValueAt}
 use Rattle.nl_vseg.specs.declared.state.State.{State}
 
@@ -27,6 +28,7 @@ pub record PutsAtAddress {M : Type 0} (g : Ghosts M) (v stamp : ℕ) (main : Lis
   pub spare : LayoutHasUnmapped (seen t)
   pub rest : KeepsRestOfState s t
   pub less : room (seen t) + 1 ≡ room (seen s)
+  pub tried : SpendsNext (seen s) (seen t)
   pub writes : WritesValueAt g v stamp main (answer ≡ write.Done) (answer ≡ write.Failed) (segment_of s) (segment_of t) old new
   pub programmed : g.tells → answer ≡ write.Done
       → BlockIsProgrammed s.blocks.size (bound (seen s)) s.active v stamp (block_at t.blocks s.active).wear main (g.contents old) (g.contents new)

@@ -7,7 +7,8 @@ use Rattle.nl_vseg.specs.declared.place.Place.{Place}
 
 -- The place of each address; the pages of a block, and the number behind the last page of the segment; how many pages can be
 -- programmed before the segment cleans; for each page, whether the segment takes it as erased; how often each block was
--- erased, as its pages record it. The pages and the blocks of the segment are the first ones of the medium.
+-- erased, as its pages record it; the next page of the block that is written to, and how many from it on are not used in that block;
+-- for each block, whether it is erased before use. The pages and the blocks of the segment are the first ones of the medium.
 pub record Segment : Type 0 where
   pub places : List (Option Place)
   pub pages : ℕ
@@ -15,10 +16,17 @@ pub record Segment : Type 0 where
   pub room : ℕ
   pub blank : List Bool
   pub wears : List ℕ
+  pub next : ℕ
+  pub left : ℕ
+  pub soiled : List Bool
 
 -- the segment takes the page of this number as erased
 abbrev pub is_taken_as_erased : Segment → ℕ → Bool
 is_taken_as_erased seg p = slice_index_or seg.blank p false
+
+-- the block of this number is erased before use, where none of its pages is in use
+abbrev pub is_erased_first : Segment → ℕ → Bool
+is_erased_first seg block = slice_index_or seg.soiled block false
 
 -- how often the block of this number was erased
 abbrev pub wear_of : Segment → ℕ → ℕ

@@ -1,5 +1,5 @@
 // Sees to it that a page can be programmed, and that one block holds no page of the map.
-ghost use Rattle.std.specs.Prelude.{◌≡◌, ℕ, ◌/◌, ◌<◌, ◌≤◌, length, true, false};
+ghost use Rattle.std.specs.Prelude.{◌≡◌, ℕ, ◌/◌, ◌<◌, ◌≤◌, length, slice_set, true, false};
 ghost use Rattle.nl_field.specs.Page.{erased, page_at};
 ghost use Rattle.nl_blocks.specs.Table.{block_at, free_count};
 ghost use Rattle.nl_vseg.specs.Places.{IsUnmapped};
@@ -9,6 +9,7 @@ ghost use Rattle.nl_vseg.specs.Cleaning.{FreesBlock, GivesBackActive, KeepsValue
 ghost use Rattle.nl_vseg.specs.Copying.{HasHole, SetsFree, SameFreeBlocks, StaysOrErased};
 ghost use Rattle.nl_vseg.specs.Used.{IsClosed, IsUnusedBlock, KeepsUsed};
 ghost use Rattle.nl_vseg.specs.Operations.{wears_after};
+ghost use Rattle.nl_vseg.specs.Tries.{OpensNext, TakesNoOther};
 
 use crate::copy::{clear, copy_block};
 use crate::state::State;
@@ -104,6 +105,7 @@ impl State {
         ensures kept { soiled ≡ true → wears_of self.new.blocks ≡ wears_of self.old.blocks }
         ensures worn { soiled ≡ false → wears_of self.new.blocks ≡ wears_after WriteAnswer.Done block (wears_of self.old.blocks) }
         ensures soiled { is_soiled (seen self.new) block ≡ soiled }
+        ensures marks { self.new.soiled.items ≡ slice_set self.old.soiled.items block soiled }
         ensures erased { (p : ℕ) → LayoutTakesAsErased (seen self.new) p
             → (p / self.old.blocks.size ≡ block → soiled ≡ false)
             × ((p / self.old.blocks.size ≡ block → ⊥) → LayoutTakesAsErased (seen self.old) p) }
@@ -146,6 +148,7 @@ impl State {
         ensures active { self.new.active ≡ self.old.active }
         ensures states { SameFreeBlocks self.old.blocks self.new.blocks }
         ensures worn { wears_of self.new.blocks ≡ wears_after WriteAnswer.Done block (wears_of self.old.blocks) }
+        ensures marks { self.new.soiled.items ≡ slice_set self.old.soiled.items block false }
         ensures erased { (p : ℕ) → LayoutTakesAsErased (seen self.new) p → (p / self.old.blocks.size ≡ block → ⊥)
             → LayoutTakesAsErased (seen self.old) p }
     {
@@ -165,6 +168,8 @@ impl State {
         ensures kept { result ≡ WriteAnswer.Done → SameFreeBlocks self.old.blocks self.new.blocks }
         ensures used { result ≡ WriteAnswer.Done → (seen self.new).used ≡ (seen self.old).used }
         ensures given { result ≡ WriteAnswer.Failed → GivesBackActive self.old self.new }
+        ensures cleaned { result ≡ WriteAnswer.Done → self.new.soiled.items ≡ slice_set self.old.soiled.items self.old.active false }
+        ensures soiled { result ≡ WriteAnswer.Failed → self.new.soiled.items ≡ slice_set self.old.soiled.items self.old.active true }
         ensures blank { M.tells → result ≡ WriteAnswer.Done → (p : ℕ) → p / self.old.blocks.size ≡ self.old.active
             → page_at (M.contents media.new) p ≡ erased }
         ensures others { M.tells → (p : ℕ) → (p / self.old.blocks.size ≡ self.old.active → ⊥)
@@ -193,6 +198,8 @@ impl State {
         ensures same { result ≡ WriteAnswer.Failed → SameFreeBlocks self.old.blocks self.new.blocks }
         ensures closed { result ≡ WriteAnswer.Failed → (seen self.new).used ≡ self.new.blocks.size }
         ensures opened { result ≡ WriteAnswer.Done → OpensActiveBlock self.old self.new }
+        ensures takes { TakesNoOther (seen self.old) (seen self.new) }
+        ensures failed { result ≡ WriteAnswer.Failed → (block : ℕ) × (is_soiled (seen self.old) block ≡ true) }
         ensures others { M.tells → result ≡ WriteAnswer.Done
             → StaysOrErased self.old.blocks.size self.new.active (M.contents media.old) (M.contents media.new) }
     {
@@ -296,6 +303,7 @@ impl State {
         ensures closed { (seen self.new).used ≡ self.new.blocks.size }
         ensures free { 1 ≤ free_count self.new.blocks }
         ensures same { 1 ≤ free_count self.old.blocks → seen self.new ≡ seen self.old }
+        ensures ready { 1 ≤ free_count self.old.blocks → result ≡ WriteAnswer.Done }
         ensures still { 1 ≤ free_count self.old.blocks → M.contents media.new ≡ M.contents media.old }
     {
         if self.blocks.free() > 0 {
@@ -314,6 +322,7 @@ impl State {
         ensures room { result ≡ VirtualWrite.Done → ((seen self.new).used < self.new.blocks.size) × (1 ≤ free_count self.new.blocks) }
         ensures direct { 0 < room (seen self.old) → result ≡ VirtualWrite.Done
             → (room (seen self.new) ≡ room (seen self.old)) × (self.new.places.items ≡ self.old.places.items) }
+        ensures opens { 0 < room (seen self.old) → OpensNext result (seen self.old) (seen self.new) }
         ensures others { M.tells → 0 < room (seen self.old) → result ≡ VirtualWrite.Done
             → StaysOrErased self.old.blocks.size self.new.active (M.contents media.old) (M.contents media.new) }
         ensures lost { LosesUntold M.tells self.old.places.items result }

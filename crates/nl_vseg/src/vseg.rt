@@ -7,6 +7,7 @@ ghost use Rattle.nl_vseg.specs.Places.{map_of, place_of, stamp_for};
 ghost use Rattle.nl_vseg.specs.Segment.{FitsSegment, IsSegmentOf, SegmentHasUnmapped, SameSize, is_taken_as_erased, wear_of};
 ghost use Rattle.nl_vseg.specs.Answers.{ReadsStampInto, ReadsValueInto, TellsFound};
 ghost use Rattle.nl_vseg.specs.Cleaning.{LosesUntold};
+ghost use Rattle.nl_vseg.specs.Tries.{SpendsTried};
 ghost use Rattle.nl_vseg.specs.Writes.{StillServes, WritesValueAt, WritesDirectly};
 
 use crate::state::State;
@@ -107,7 +108,8 @@ impl VSeg {
     }
 
     /// Gives an address these main bytes under a write sequence number from 1 and below 2^63. Cleans a block first where no
-    /// page can be programmed. After `Fault` and `Lost` the segment has the map that it had.
+    /// page can be programmed. After `Fault` and `Lost` the segment has the map that it had. The page whose program failed is not
+    /// programmed again before its block is erased.
     pub fn virtual_write<M: Nand>(
         &mut self,
         media: &mut M,
@@ -125,6 +127,7 @@ impl VSeg {
             (result ≡ VirtualWrite.Fault) self.old self.new media.old media.new }
         ensures direct { 0 < self.old.room → result ≡ VirtualWrite.Done
             → WritesDirectly M.Nand vaddr stamp from.now.main self.old self.new media.old media.new }
+        ensures spends { 0 < self.old.room → SpendsTried (result ≡ VirtualWrite.Done) self.old self.new }
         ensures lost { LosesUntold M.tells self.old.places result }
     {
         self.state.write(media, vaddr, from, stamp)

@@ -1,6 +1,7 @@
 use Rattle.nl_pseg.specs.Space.{HasRoomForVictim, left_in_victim}
-use Rattle.std.proofs.Common.{◌≡◌, subst, ◌↔◌, sym}
+use Rattle.std.proofs.Common.{◌≡◌, ◌<◌, subst, ◌↔◌, sym}
 use Rattle.nl_pseg.specs.Cleaning.{CountedMove}
+use Rattle.nl_pseg.specs.Tries.{SpendsTriedCopy}
 use Rattle.nl_pseg.specs.Copies.{CopiesOn, CopiesPage}
 use Rattle.nl_pseg.specs.Segment.{IsClean, Physical, IsPhysicalOf}
 use Rattle.nl_pseg.specs.Kept.{kept}
@@ -57,3 +58,8 @@ returns-clause-copies g c =
 pub returns-clause-medium : goal.returns-clause-medium
 returns-clause-medium g c t =
     subst (λ (s : Physical). CopiesOn g.M.Nand.clock g.M.Nand.contents g.M.Nand.left c.copy_one-copied.result s (seen (kept c.copy_one-copied.new.self)) c.args.media.now c.copy_one-copied.new.media) c.self.view_is (c.copy_one-copied.ensures.medium t)
+
+pub returns-clause-tried : goal.returns-clause-tried
+returns-clause-tried g c =
+    let e = c.copy_one-copied in
+    subst (λ (s : Physical). SpendsTriedCopy e.result (g.M.Nand.write_faults c.args.media.now < g.M.Nand.write_faults e.new.media) s (seen (kept e.new.self))) c.self.view_is e.ensures.tried

@@ -1,13 +1,15 @@
 use Rattle.nl_blocks.specs.Table.{block_at, dead_count}
 use Rattle.nl_pseg.proofs.Small.{left_some, left_zero, lands_some}
 use Rattle.nl_pseg.proofs.MoveAnswers.{moves_copied, moves_copied_on, nothing_copied, nothing_copied_on}
-use Rattle.std.proofs.Common.{◌≡◌, inr, Some, refl, sym, ◌∙◌, ap}
+use Rattle.std.proofs.Common.{◌≡◌, inr, Some, refl, sym, ◌∙◌, ap, arith}
 use Rattle.nl_pseg.specs.Segment.{InVictim, held_at}
 use Rattle.nl_pseg.specs.Seen.{seen}
 use Rattle.nl_pseg.proofs.Left.{left_is, none_live, some_live}
 use Rattle.nl_pseg.proofs.Looked.{formed_looked, tied_looked}
 use Rattle.nl_pseg.proofs.MoveSteps.{nothing_counts}
 use Rattle.nl_pseg.specs.Kept.{kept}
+use Rattle.nl_pseg.proofs.Tries.{still_spends}
+use Rattle.nl_pseg.specs.declared.cleaned.Copied.TheVariants.{Nothing}
 use Rattle.nl_pseg.proofs.state.State.copy_one.Goals as goal
 
 pub first_live-requires-clause-has : goal.first_live-requires-clause-has
@@ -167,3 +169,15 @@ returns-clause-medium g c t =
     let live = sym c.live_on.ensures ∙ c.in-Some-live_on.is in
     let m = c.move_page.ensures in
     moves_copied_on c.in-Some-first_live.before c.in-Some-live_on.held c.move_page.result victim live m.moves (m.medium t)
+
+pub returns-in_default-clause-tried : goal.returns-in_default-clause-tried
+returns-in_default-clause-tried g c = still_spends Nothing _ (seen (kept c.args.self.now)) (λ more. omega (arith, more)) tt
+
+pub returns-in_default-first_live-clause-tried : goal.returns-in_default-first_live-clause-tried
+returns-in_default-first_live-clause-tried g c = still_spends Nothing _ (seen (kept c.args.self.now)) (λ more. omega (arith, more)) tt
+
+pub returns-in_default-live_on-clause-tried : goal.returns-in_default-live_on-clause-tried
+returns-in_default-live_on-clause-tried g c = still_spends Nothing _ (seen (kept c.args.self.now)) (λ more. omega (arith, more)) tt
+
+pub returns-clause-tried : goal.returns-clause-tried
+returns-clause-tried g c = c.move_page.ensures.tried

@@ -1,5 +1,5 @@
 use Rattle.nl_pseg.specs.Space.{left_in_victim}
-use Rattle.nl_pseg.proofs.Small.{one_page, some_room, can_program}
+use Rattle.nl_pseg.proofs.Small.{one_page, room_left, some_room, can_program}
 use Rattle.nl_pseg.proofs.Apart.{wrote_done_failed, moved_fault}
 use Rattle.std.proofs.Common.{◌≡◌, cond, ℕ, ◌+◌, ◌*◌, ◌/◌, ◌<◌, Option, Some, None, List, length, get_or, refl, sym, ◌∙◌, ap, subst, is_some, length-set}
 use Rattle.std.proofs.lemmas.List.{get_or-set_other, get_or-set_same}
@@ -165,7 +165,7 @@ returns-in-Done-clause-write_faults g c = done_unfailed c.program_page.ensures.w
 
 pub returns-in-Failed-clause-lands : goal.returns-in-Failed-clause-lands
 returns-in-Failed-clause-lands g c =
-    landed_none c.args.before c.args.held c.use_copy.ensures.used (copy_dead (kept c.args.self.now) c.requires.consistent.formed c.requires.consistent.tied c.requires.room)
+    landed_none c.args.before c.args.held c.use_copy.ensures.used (room_left c.requires.room) (copy_kept (kept c.args.self.now) c.requires.consistent.formed c.requires.consistent.tied c.requires.room) (copy_behind (kept c.args.self.now) c.requires.consistent.formed c.requires.consistent.tied c.requires.room) (copy_dead (kept c.args.self.now) c.requires.consistent.formed c.requires.consistent.tied c.requires.room)
 
 pub returns-in-Failed-clause-consistent : goal.returns-in-Failed-clause-consistent
 returns-in-Failed-clause-consistent g c =
@@ -173,7 +173,7 @@ returns-in-Failed-clause-consistent g c =
 
 pub returns-in-Done-clause-lands : goal.returns-in-Done-clause-lands
 returns-in-Done-clause-lands g c =
-    landed_moved c.args.before c.in-Some.after c.args.held c.in-Some.ensures.some.1 c.use_copy-in-Done.ensures.used c.lead.ensures.led c.requires.victim c.requires.live (copy_dead (kept c.args.self.now) c.requires.consistent.formed c.requires.consistent.tied c.requires.room)
+    landed_moved c.args.before c.in-Some.after c.args.held c.in-Some.ensures.some.1 c.use_copy-in-Done.ensures.used c.lead.ensures.led c.requires.victim c.requires.live (room_left c.requires.room) (copy_kept (kept c.args.self.now) c.requires.consistent.formed c.requires.consistent.tied c.requires.room) (copy_behind (kept c.args.self.now) c.requires.consistent.formed c.requires.consistent.tied c.requires.room) (copy_dead (kept c.args.self.now) c.requires.consistent.formed c.requires.consistent.tied c.requires.room)
 
 pub returns-in-Done-clause-consistent : goal.returns-in-Done-clause-consistent
 returns-in-Done-clause-consistent g c =

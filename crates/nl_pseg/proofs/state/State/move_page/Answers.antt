@@ -3,7 +3,7 @@ use Rattle.nl_pseg.proofs.Apart.{wrote_done_failed, read_done_fault, read_lost_d
 use Rattle.nl_pseg.proofs.Medium.{fits_then, within_medium}
 use Rattle.nl_field.specs.CrashStates.{Rose, saturated}
 use Rattle.nl_pseg.specs.Space.{HasRoomForVictim}
-use Rattle.std.proofs.Common.{◌≡◌, ◌⊎◌, ⊎_elim, ℕ, ◌/◌, Option, Some, None, List, get_or, sym, ◌∙◌, ap, subst, inl, inr, ◌+◌}
+use Rattle.std.proofs.Common.{arith, ◌≡◌, ◌⊎◌, ⊎_elim, ℕ, ◌/◌, Option, Some, None, List, get_or, sym, ◌∙◌, ap, subst, inl, inr, ◌+◌}
 use Rattle.std.proofs.lemmas.Option.{none-some}
 use Rattle.nl_field.specs.Page.{page_at}
 use Rattle.nl_pseg.specs.Cleaning.{IsMoved, programmed_by}
@@ -19,6 +19,7 @@ use Rattle.nl_pseg.proofs.MoveSteps.{landed_counts, landed_crashes, read_crashes
 use Rattle.nl_pseg.specs.Kept.{kept}
 use Rattle.nl_pseg.specs.declared.cleaned.Copied.TheVariants.{Fault, Lost}
 use Rattle.nl_pseg.proofs.MoveAnswers.{copied_programmed, fault_moves, landed_moves, lost_moves, read_moves_on, readied_moves}
+use Rattle.nl_pseg.proofs.Tries.{landed_spends, readied_spends, still_spends}
 use Rattle.nl_pseg.proofs.state.State.move_page.Goals as goal
 
 pub read_page-requires-clause-spelled : goal.read_page-requires-clause-spelled
@@ -205,3 +206,19 @@ returns-in-Done-ready-clause-medium g c t =
       crash = subst (λ (m : List ℕ). Crashes g.M.Nand.clock g.M.Nand.contents g.M.Nand.left (seen s) held.tag held.stamp m c.args.media.now c.land.new.media (programmed_by c.land.result)) (sym main)
           (landed_crashes r held.tag held.stamp c.read_page.new.buf.main c.land.result on (λ moved. earlier (g.M.Nand.clock c.ready.new.media) (l.clock.0 moved)) m.crash);
     }
+
+pub returns-in-Lost-clause-tried : goal.returns-in-Lost-clause-tried
+returns-in-Lost-clause-tried g c =
+    let same = c.read_page.ensures.write_faults in
+    still_spends (Lost c.in-Lost.wanted c.in-Lost.found) _ (seen (kept c.args.self.now)) (λ more. omega (arith, same, more)) tt
+
+pub returns-in-Fault-clause-tried : goal.returns-in-Fault-clause-tried
+returns-in-Fault-clause-tried g c =
+    let same = c.read_page.ensures.write_faults in
+    still_spends Fault _ (seen (kept c.args.self.now)) (λ more. omega (arith, same, more)) tt
+
+pub returns-in-Failed-clause-tried : goal.returns-in-Failed-clause-tried
+returns-in-Failed-clause-tried g c = readied_spends _ c.ready.ensures.readied (c.ready.ensures.failed c.in-Failed.is)
+
+pub returns-in-Done-ready-clause-tried : goal.returns-in-Done-ready-clause-tried
+returns-in-Done-ready-clause-tried g c = landed_spends c.ready.ensures.readied c.land.result _ c.land.ensures.lands

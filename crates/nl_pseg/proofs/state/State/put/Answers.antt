@@ -27,7 +27,7 @@ returns-in-Failed-clause-placing g c =
     let s = kept c.args.self.now in
     let is = c.requires.formed in
     let room = c.requires.room in
-    used_failed c.args.stamp _ c.use_next.ensures.used (room_left room) (dead_next (seen s) is.places (seen s).next (is_next s is c.requires.room))
+    used_failed c.args.stamp _ c.use_next.ensures.used (room_left room) (next_in_use s is room (seen s).next (is_next s is room)) (λ copy. next_copy s is c.requires.tied room (seen s).next (is_next s is room) copy) (dead_next (seen s) is.places (seen s).next (is_next s is c.requires.room))
 
 pub returns-in-Done-clause-placing : goal.returns-in-Done-clause-placing
 returns-in-Done-clause-placing g c =
@@ -37,7 +37,7 @@ returns-in-Done-clause-placing g c =
     let at : c.in-Some.page ≡ (seen s).next = c.in-Some.ensures.some.1 in
     let next = is_next s is c.requires.room in
     let dead : IsDead (seen s) (seen s).next = record { within = next_segment s is c.requires.room (seen s).next next; dead = dead_next (seen s) is.places (seen s).next next; own = next_own s is c.requires.tied (seen s).next next; apart = next_apart s is c.requires.tied c.requires.room (seen s).next next } in
-    used_placed (c.in-Some.page) c.args.stamp at c.use_next-in-Done.ensures.used (room_left room) (subst (IsDead (seen s)) (sym at) dead)
+    used_placed (c.in-Some.page) c.args.stamp at c.use_next-in-Done.ensures.used (room_left room) (next_in_use s is room (seen s).next next) (λ copy. next_copy s is c.requires.tied room (seen s).next next copy) (subst (IsDead (seen s)) (sym at) dead)
 
 pub next_page-requires : goal.next_page-requires
 next_page-requires g c = c.requires.formed.active_in

@@ -12,11 +12,11 @@ use Rattle.nl_nand.specs.Nand.{Cut}
 use Rattle.nl_nand.proofs.Crashes.{operation}
 use Rattle.nl_nand.proofs.Crashes as crashes
 use Rattle.nl_pseg.specs.Effects.{PreservesSegment}
-use Rattle.nl_pseg.specs.Segment.{Physical, IsPhysicalOf, is_free, is_kept, is_soiled}
+use Rattle.nl_pseg.specs.Segment.{Physical, IsPhysicalOf, IsUnspent, is_free, is_kept, is_soiled}
 use Rattle.nl_pseg.specs.Seen.{seen, IsPhysicalFormed, IsTied}
 use Rattle.nl_pseg.specs.Steps.{IsReadied, aimed_at}
 use Rattle.nl_pseg_blocks.specs.Uses.{Use, use_in, SetsUse}
-use Rattle.nl_pseg.proofs.Aimed.{again_readied, aimed_readied}
+use Rattle.nl_pseg.proofs.Aimed.{again_readied, again_unspent, aimed_readied}
 use Rattle.nl_pseg.proofs.Forms.{formed_same}
 use Rattle.nl_pseg.proofs.Images.{erase_keeps, erase_others, keeps_nothing}
 use Rattle.nl_pseg.proofs.Numbers.{block_of, in_block}
@@ -200,6 +200,25 @@ returns-in-Failed-clause-readied g c =
     let same = restated_same (free_use s block is free) both in
     subst (λ (k : Kept). IsReadied (seen s) (seen (record k { blocks = c.give_back.new.blocks }))) (again_counted c.args.self.now is c.requires.tied block _ has free c.give_back.new.blocks both)
     (again_readied s is c.requires.tied c.give_back.new.blocks c.count.ensures.table c.count-in-Failed.ensures.table same both.marks)
+
+pub returns-in-Failed-clause-failed : goal.returns-in-Failed-clause-failed
+returns-in-Failed-clause-failed g c e =
+    let s = kept c.args.self.now in
+    let is = c.requires.formed in
+    let block = c.take_target-block.result in
+    let has = c.take_target-block.ensures.has in
+    let free = c.take_target-block.ensures.was_free in
+    let r = c.take_target-block.ensures.taken in
+    let mid = c.take_target-block.new.blocks in
+    let full : s.blocks.size ≤ s.filled = (full_is c.args.self.now c.next_copy.result c.next_copy.ensures.none (sym c.is_some.ensures ∙ c.if-is_some.false)) in
+    let dirty : is_soiled (seen s) block ≡ true = sym c.is_soiled.ensures ∙ c.if-not-is_soiled.false in
+    let again : SetsUse block true (use_in s.blocks block).wear mid c.give_back.new.blocks = subst (λ n. SetsUse block true n mid c.give_back.new.blocks) (ap (λ (u : Use). u.wear) r.here) c.give_back.ensures in
+    let both = restated_again r again in
+    let same = restated_same (free_use s block is free) both in (
+      subst (λ (k : Kept). IsUnspent (seen s) (seen (record k { blocks = c.give_back.new.blocks }))) (again_counted c.args.self.now is c.requires.tied block _ has free c.give_back.new.blocks both)
+          (again_unspent s is c.requires.tied c.give_back.new.blocks c.count.ensures.table c.count-in-Failed.ensures.table same both.marks),
+      ⊎_elim (λ some. omega (arith, full, some)) (λ clean. true≢false (sym dirty ∙ clean block (free_kept s.blocks block free))),
+    )
 
 pub returns-in-Failed-clause-medium : goal.returns-in-Failed-clause-medium
 returns-in-Failed-clause-medium g c t =

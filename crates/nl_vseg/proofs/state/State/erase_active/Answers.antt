@@ -31,6 +31,8 @@ returns-in-Done g c =
       kept = λ done. worn.states;
       used = λ done. worn.used;
       given = λ failed. absurd (page_done_failed failed);
+      cleaned = λ done. worn.marks;
+      soiled = λ failed. absurd (page_done_failed failed);
       blank = λ t done p at. erased_inside block pages c.args.self.now.blocks.size fits.pages (c.in-Done.ensures.effect t) formed.segment.some p at;
       others = λ t p ne. erased_outside block pages c.args.self.now.blocks.size fits.pages (filled_cut (c.in-Done.ensures.effect t)) p (beside_of p c.args.self.now.blocks.size block ne);
     }
@@ -54,6 +56,8 @@ returns-in-Failed g c =
       kept = λ done. absurd (page_failed_done done);
       used = λ done. absurd (page_failed_done done);
       given = λ failed. record { same_places = free.same_places; closed = ap (used_of c.set_free.new.self.blocks) free.same_active ∙ free.used.full; states = free.states };
+      cleaned = λ done. absurd (page_failed_done done);
+      soiled = λ failed. c.set_free.ensures.marks;
       blank = λ t done. absurd (page_failed_done done);
       others = λ t p ne. erased_outside block pages c.args.self.now.blocks.size fits.pages (c.in-Failed.ensures.effect t) p (beside_of p c.args.self.now.blocks.size block ne);
     }

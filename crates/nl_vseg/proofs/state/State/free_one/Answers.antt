@@ -18,6 +18,7 @@ returns-then-free-gt0 g c =
       closed = c.requires.closed;
       free = subst (λ n. 1 ≤ n) c.free.ensures (le_least c.if-free-gt0.true);
       same = λ some. refl;
+      ready = λ some. refl;
       still = λ some. refl;
     }
 
@@ -60,5 +61,6 @@ returns g c =
           ∙ closed_full s.active within (settled_used s t c.requires.stands.formed e.states e.settled) er.free.states.numbers.same_size er.free.used;
       free = given_free (e.states.free c.choose-block.result ∙ e.in_use) er.free.states;
       same = λ some. absurd (none some);
+      ready = λ some. absurd (none some);
       still = λ some. absurd (none some);
     }

@@ -1,14 +1,16 @@
-use Rattle.std.proofs.Common.{◌≡◌, ◌+◌, ◌<◌, ◌≤◌, inl, Bool, cond, refl, sym, ◌∙◌, ap, subst, arith}
+use Rattle.std.proofs.Common.{◌≡◌, ◌+◌, ◌<◌, ◌≤◌, inl, inr, Bool, true, cond, refl, sym, ◌∙◌, ap, subst, arith}
 use Rattle.nl_blocks.specs.Table.{free_count}
 use Rattle.nl_field.specs.Page.{Image}
 use Rattle.nl_nand.specs.declared.answers.WriteAnswer.TheVariants.{Failed}
 use Rattle.nl_vseg.specs.Copying.{StaysOrErased}
-use Rattle.nl_vseg.specs.Layout.{Layout, block_is_free, room}
+use Rattle.nl_vseg.specs.Layout.{Layout, block_is_free, is_soiled, room}
 use Rattle.nl_vseg.specs.Seen.{seen}
 use Rattle.nl_vseg.specs.Used.{used_of}
 use Rattle.nl_vseg.proofs.Cleaning.{loses_as, stands_closed, stands_spare, values_as, values_from, values_still, values_then, with_table}
 use Rattle.nl_vseg.proofs.Copies.{full_room, opened_room, room_free}
-use Rattle.nl_vseg.proofs.Small.{done_fault, fault_done, le_least, one_left, page_done_failed}
+use Rattle.nl_vseg.proofs.Small.{done_fault, fault_done, le_least, one_left, page_done_failed, page_failed_done}
+use Rattle.nl_vseg.proofs.Tries.{closed_takes, still_takes, takes_then}
+use Rattle.nl_vseg.specs.Tries.{TakesNoOther}
 use Rattle.nl_vseg.proofs.Using.{numbered_room, spare_used}
 use Rattle.nl_vseg.proofs.state.State.make_room.Goals.{else-has_room-via-then-has_room+else-free-gt0, else-has_room-via-else-has_room}
 use Rattle.nl_vseg.proofs.state.State.make_room.Goals as goal
@@ -21,6 +23,7 @@ returns-then-free-gt0 g c =
       spare = c.requires.spare;
       room = λ done. (c.has_room.ensures.room c.if-has_room.true, subst (λ n. 1 ≤ n) c.free.ensures (le_least c.if-free-gt0.true));
       direct = λ some done. (refl, refl);
+      opens = λ some. record { done = λ done. inl (c.has_room.ensures.room c.if-has_room.true, refl); failed = λ not. absurd (not refl); others = still_takes (seen s); same_size = refl };
       others = λ t some done p. inl refl;
       lost = record { lost = tt; kept = λ t is. is };
     }
@@ -49,6 +52,7 @@ returns-in-Failed g c =
       spare = stands_spare g.M.Nand f.keeps.stands f.free;
       room = λ done. absurd (fault_done done);
       direct = λ some done. absurd (fault_done done);
+      opens = λ some. absurd (page_failed_done (sym c.in-Failed.is ∙ f.ready (subst (λ n. 1 ≤ n) (sym u.states.total) (room_free (seen s) some))));
       others = λ t some done. absurd (fault_done done);
       lost = record { lost = tt; kept = λ t is. is };
     }
@@ -81,6 +85,7 @@ returns-then-free-lt2 g c =
       spare = stands_spare g.M.Nand k.keeps.stands k.spare;
       room = λ done. (k.room done, k.spare);
       direct = λ some. absurd (few some);
+      opens = λ some. absurd (few some);
       others = λ t some. absurd (few some);
       lost = loses_as f.places k.lost;
     }
@@ -124,6 +129,17 @@ returns-in-Done-start g c =
             ap room (f.same (omega (arith, both, sealed))) ∙ (numbered_room (seen s) c.seal_used.new.blocks u.states (u.used.full ∙ (u.states.numbers.same_size ∙ sym (full some))))),
         e.places ∙ f.places,
       );
+      opens = λ some.
+          let same = f.same (subst (λ n. 1 ≤ n) (sym u.states.total) (room_free (seen s) some)) in
+          let begin = e.takes in
+          let sealed = seen (with_table s c.seal_used.new.blocks) in
+          let takes : TakesNoOther sealed (seen c.start.new.self) = subst (λ (l : Layout). TakesNoOther l (seen c.start.new.self)) same begin in
+          record {
+            done = λ done. inr (full some, let begins = opened.begins in let size = e.keeps.stands.formed.segment.some in omega (arith, begins, size));
+            failed = λ not. absurd (not refl);
+            others = takes_then (seen s) sealed (seen c.start.new.self) u.states.numbers.same_size refl (λ p taken. closed_takes (seen s) sealed u.states u.used.full (λ b clean. clean) p taken) takes;
+            same_size = e.keeps.shape.pages ∙ (f.keeps.shape.pages ∙ u.states.numbers.same_size);
+          };
       others = λ t some done.
           let shape = f.keeps.shape in
           let still = f.still (subst (λ n. 1 ≤ n) (sym u.states.total) (room_free (seen s) some)) in
@@ -140,11 +156,26 @@ returns-in-Failed-start g c =
     let freed = values_from g.M.Nand s (with_table s c.seal_used.new.blocks) refl u.states.numbers u.wears f.keeps in
     let one : c.free_one.result ≡ Failed → ⊥ = λ failed. page_done_failed (sym c.in-Done.is ∙ failed) in
     let e = c.start.ensures in
+    let full : 0 < room (seen s) → used_of s.blocks s.active ≡ s.blocks.size = elim c.else-has_room.branch [
+      | else-has_room-via-then-has_room+else-free-gt0 w ↦ λ some. let free = w.free.ensures in let none = w.if-free-gt0.false in let least = room_free (seen s) some in absurd (omega (arith, free, none, least))
+      | else-has_room-via-else-has_room w ↦ λ some. c.has_room.ensures.full w.if-has_room.false
+    ] in
     record {
       keeps = values_as g.M.Nand (λ failed. refl) (λ failed. c.in-Failed-start.is) (values_then g.M.Nand one freed e.keeps);
       spare = stands_spare g.M.Nand e.keeps.stands (subst (λ n. 1 ≤ n) (sym (e.same c.in-Failed-start.is).total) f.free);
       room = λ done. absurd (fault_done done);
       direct = λ some done. absurd (fault_done done);
+      opens = λ some.
+          let same = f.same (subst (λ n. 1 ≤ n) (sym u.states.total) (room_free (seen s) some)) in
+          let begin = e.takes in
+          let sealed = seen (with_table s c.seal_used.new.blocks) in
+          let takes : TakesNoOther sealed (seen c.start.new.self) = subst (λ (l : Layout). TakesNoOther l (seen c.start.new.self)) same begin in
+          record {
+            done = λ done. absurd (fault_done done);
+            failed = λ not. (full some, let w = e.failed c.in-Failed-start.is in (w.0, subst (λ (l : Layout). is_soiled l w.0 ≡ true) same w.1));
+            others = takes_then (seen s) sealed (seen c.start.new.self) u.states.numbers.same_size refl (λ p taken. closed_takes (seen s) sealed u.states u.used.full (λ b clean. clean) p taken) takes;
+            same_size = e.keeps.shape.pages ∙ (f.keeps.shape.pages ∙ u.states.numbers.same_size);
+          };
       others = λ t some done. absurd (fault_done done);
       lost = record { lost = tt; kept = λ t is. is };
     }

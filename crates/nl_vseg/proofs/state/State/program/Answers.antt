@@ -16,6 +16,7 @@ use Rattle.nl_vseg.proofs.Blocks.{some_free}
 use Rattle.nl_vseg.proofs.Counts.{counted_write, rose_counted, ticked_done}
 use Rattle.nl_vseg.proofs.Operating.{operates_both, operates_page, operates_still}
 use Rattle.nl_vseg.proofs.Small.{fits_then, page_done_failed, page_failed_done}
+use Rattle.nl_vseg.proofs.Tries.{used_spends}
 use Rattle.nl_vseg.proofs.Using.{numbered, numbered_image, numbered_room, room_next, same_wear, spare_used}
 use Rattle.nl_vseg.proofs.Views.{wear_at}
 use Rattle.nl_vseg.proofs.Writing.{more, spare_kept, spare_put, stamp_put, put_segment, can_program, after_cut, map_stays, after_new, map_new, programmed, put_either, put_takes, put_leaves}
@@ -69,6 +70,7 @@ returns-in-Failed g c =
           same_active = refl;
           wear = same_wear s.blocks table s.active is.first first u.wears;
         };
+        tried = used_spends seg (record next { table = table; used = used_of table s.active }) room (is.taken room) u.states refl u.used.more refl;
         less = ap (λ n. n + 1) (numbered_room next table u.states u.used.more) ∙ room_next seg room c.requires.free;
         writes = record {
           stamps = record { taken = λ done. absurd (page_failed_done done); same = λ undone v. refl };
@@ -142,6 +144,7 @@ returns-in-Done g c =
           same_active = refl;
           wear = same_wear s.blocks table s.active is.first first u.wears;
         };
+        tried = used_spends seg (record next { table = table; used = used_of table s.active }) room (is.taken room) u.states refl u.used.more refl;
         less = ap (λ n. n + 1) (numbered_room next table u.states u.used.more) ∙ room_next seg room c.requires.free;
         writes = record {
           stamps = record { taken = λ done v. stamp_put seg.places c.args.vaddr page c.args.stamp c.requires.vaddr v; same = λ undone. absurd (undone refl) };

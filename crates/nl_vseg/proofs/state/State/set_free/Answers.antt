@@ -35,3 +35,6 @@ returns-clause-formed c =
 
 pub returns-clause-free : goal.returns-clause-free
 returns-clause-free c = record { same_places = refl; same_active = refl; used = c.free_block.ensures.used; states = c.free_block.ensures.states }
+
+pub returns-clause-marks : goal.returns-clause-marks
+returns-clause-marks c = refl

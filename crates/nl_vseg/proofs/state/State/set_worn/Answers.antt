@@ -1,4 +1,4 @@
-use Rattle.std.proofs.Common.{◌≡◌, ◌⊎◌, inl, inr, ◌+◌, ◌*◌, ◌/◌, ◌<◌, ◌≤◌, true, false, length, set, sym, ◌∙◌, subst, length-set}
+use Rattle.std.proofs.Common.{◌≡◌, ◌⊎◌, inl, inr, ◌+◌, ◌*◌, ◌/◌, ◌<◌, ◌≤◌, true, false, length, set, refl, sym, ◌∙◌, subst, length-set}
 use Rattle.std.proofs.lemmas.List.{get_or-set_other}
 use Rattle.nl_vseg.specs.Layout.{Layout, IsLayout, LayoutTakesAsErased, block_is_free, is_soiled}
 use Rattle.nl_vseg.specs.Seen.{seen}
@@ -39,3 +39,6 @@ returns-clause-erased c p taken ne = cases n.1
     cases : ((new.active * old.table.size + new.used ≤ p) × (p < new.active * old.table.size + old.table.size)) ⊎ ((block_is_free new.table (p / old.table.size) ≡ true) × (is_soiled new (p / old.table.size) ≡ false)) → LayoutTakesAsErased old p
     cases (inl x) = (n.0, inl (subst (λ u. old.active * old.table.size + u ≤ p) (c.wear_out.ensures.used.each old.active c.requires.formed.segment.active_is) x.0, x.1))
     cases (inr x) = (n.0, inr (sym (c.wear_out.ensures.states.free (p / old.table.size)) ∙ x.0, sym (get_or-set_other old.soiled c.args.block (p / old.table.size) false false ne) ∙ x.1))
+
+pub returns-clause-marks : goal.returns-clause-marks
+returns-clause-marks c = refl
