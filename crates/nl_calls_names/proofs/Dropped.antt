@@ -99,7 +99,7 @@ module _ {D : Type 0} (g : Ghosts D) (s : D) (pages : Pages) (free : Spaces) (vo
       };
     }
 
-    had : inode_at before n ≡ Some d.rec
+    pub had : inode_at before n ≡ Some d.rec
     had = inode_there ∙ d.was
 
     count : length now.running ≡ length pages.running

@@ -1,5 +1,6 @@
 -- A volume whose names were changed, once the node that lost its name is dropped, if one did.
-use Rattle.std.proofs.Common.{◌≡◌, ◌≢◌, ℕ, ◌+◌, ◌<◌, List, [], ◌++◌, map, length, Option, Some, None, IsSome, refl, sym, ap, subst, ◌∙◌, arith}
+use Rattle.std.proofs.Common.{◌≡◌, ◌≢◌, ℕ, ◌+◌, ◌<◌, Bool, true, false, List, [], ◌++◌, map, length, Option, Some, None, IsSome, refl, sym, ap, subst, ◌∙◌, ◌⊎◌, inl, inr, arith}
+use Rattle.std.proofs.lemmas.Bool.{cases_eq}
 use Rattle.std.proofs.lemmas.List.{append-nil, length-append, length-map}
 use Rattle.nl_field.specs.Graph.{GraphNode, unused}
 use Rattle.nl_field.specs.Members.{Has}
@@ -13,11 +14,11 @@ use Rattle.nl_iface.specs.Device.{IsVolumeShape}
 use Rattle.nl_iface.specs.Holders.{tagged}
 use Rattle.nl_iface.specs.declared.counts.Counts.{Ghosts}
 use Rattle.nl_inode.specs.FreeLaws.{NodeIs}
-use Rattle.nl_inode.specs.Nodes.{Spaces, page_of_node}
+use Rattle.nl_inode.specs.Nodes.{Spaces, is_free_node, page_of_node}
 use Rattle.nl_journal.specs.Progress.{Progress}
 use Rattle.nl_meta.specs.Committed.{VirtualMap}
 use Rattle.nl_meta.specs.Consistent.{AddressesRight, IsNode}
-use Rattle.nl_meta.specs.Nodes.{Held, graph_of, held_by, held_in}
+use Rattle.nl_meta.specs.Nodes.{Held, graph_of, held_by, held_in, slots_of}
 use Rattle.nl_meta.specs.Pages.{Pages, page_of}
 use Rattle.nl_meta.specs.PointerLists.{tagged_by, tagged_in, with_tag}
 use Rattle.nl_meta.specs.Steps.{ChangesRunningPages}
@@ -34,12 +35,14 @@ use Rattle.nl_spec_commits.proofs.FileLists.{Around, node_changes}
 use Rattle.nl_spec_commits.proofs.Replacing.{cutting_keeps_held}
 use Rattle.nl_namespace.specs.Calls.{ChangesNames}
 use Rattle.nl_namespace.specs.Changing.{Changes, FreeFits}
+use Rattle.nl_namespace.specs.Taking.{TakesLeast}
 use Rattle.nl_namespace.specs.declared.answer.Change.TheVariants as change
 use Rattle.nl_calls_names.specs.Dropping.{DropsNode, unused_as}
 use Rattle.nl_calls_names.specs.Gathering.{pointers_of_node}
-use Rattle.nl_calls_names.proofs.Dropped.{changes, fits_now, node_now, runs_now}
+use Rattle.nl_calls_names.proofs.Dropped.{changes, fits_now, had, node_now, runs_now}
 use Rattle.nl_calls_names.proofs.Graphs.{changes_names, not_root}
 use Rattle.nl_calls_names.proofs.Holders.{fewer, held_all, held_same, plain_by}
+use Rattle.nl_calls_names.proofs.Taken.{generation_at, takes_dropped}
 use Rattle.nl_calls_names.proofs.Unused.{node_is, other_nodes}
 
 -- The volume runs on. Its nodes are those that the call leaves, and of the pointers of files those are gone that the node had.
@@ -48,6 +51,7 @@ pub record Ended {D : Type 0} (g : Ghosts D) (s : D) (pages : Pages) (free : Spa
   pub kept : ChangesRunningPages pages now
   pub runs : RunningIsRight g t now
   pub fits : FreeFits g t now after
+  pub takes : TakesLeast free after (graph_of (g.shape s) (running_on g s pages)) (graph_of (g.shape t) (running_on g t now))
   pub names : ChangesNames free (graph_of (g.shape s) (running_on g s pages)) (graph_of (g.shape t) (running_on g t now)) call (change.Changed gone)
   pub given : List (Tag × Pointer)
   pub is_given : map tagged given ≡ pointers_of_node (graph_of (g.shape s) (running_on g s pages)) gone
@@ -56,7 +60,7 @@ pub record Ended {D : Type 0} (g : Ghosts D) (s : D) (pages : Pages) (free : Spa
 
 -- ---- names changed
 
-module _ {D : Type 0} (g : Ghosts D) (s : D) (pages : Pages) (free : Spaces) (t : D) (mid : Pages) (between : Spaces) (call : Call) (gone : Option ℕ) (c : Changes g s pages t mid between gone) where
+module _ {D : Type 0} (g : Ghosts D) (s : D) (pages : Pages) (free : Spaces) (t : D) (mid : Pages) (between : Spaces) (call : Call) (gone : Option ℕ) (c : Changes g s pages free t mid between gone) where
   same_shape : g.shape t ≡ g.shape s
   same_shape = c.reads.medium.virtual.same_shape
 
@@ -82,7 +86,7 @@ module _ {D : Type 0} (g : Ghosts D) (s : D) (pages : Pages) (free : Spaces) (t 
   all_held = held_all shape old changed same_pointers same_files
 
 -- no node lost its name
-module _ {D : Type 0} (g : Ghosts D) (s : D) (pages : Pages) (free : Spaces) (t : D) (mid : Pages) (between : Spaces) (call : Call) (c : Changes g s pages t mid between None)
+module _ {D : Type 0} (g : Ghosts D) (s : D) (pages : Pages) (free : Spaces) (t : D) (mid : Pages) (between : Spaces) (call : Call) (c : Changes g s pages free t mid between None)
     (names : ChangesNames free (graph_of (g.shape s) (running_on g s pages)) (graph_of (g.shape t) (running_on g t mid)) call (change.Changed None)) where
   pub ended_all_named : Ended g s pages free t mid between call None
   ended_all_named = record {
@@ -90,6 +94,7 @@ module _ {D : Type 0} (g : Ghosts D) (s : D) (pages : Pages) (free : Spaces) (t 
     kept = c.pages;
     runs = record { count = c.runs.count; nodes = c.runs.nodes; addresses = c.runs.addresses; entries = c.runs.entries; absent = c.runs.absent; clean = c.runs.clean };
     fits = c.fits;
+    takes = c.takes;
     names = names;
     given = [];
     is_given = refl;
@@ -104,7 +109,7 @@ module _ {D : Type 0} (g : Ghosts D) (s : D) (pages : Pages) (free : Spaces) (t 
   }
 
 -- one did, and is dropped
-module _ {D : Type 0} (g : Ghosts D) (s : D) (pages : Pages) (free : Spaces) (volume : IsVolumeShape (g.shape s)) (runs : RunningIsRight g s pages) (t : D) (mid : Pages) (between : Spaces) (call : Call) (n : ℕ) (c : Changes g s pages t mid between (Some n))
+module _ {D : Type 0} (g : Ghosts D) (s : D) (pages : Pages) (free : Spaces) (volume : IsVolumeShape (g.shape s)) (runs : RunningIsRight g s pages) (t : D) (mid : Pages) (between : Spaces) (call : Call) (n : ℕ) (c : Changes g s pages free t mid between (Some n))
     (names : ChangesNames free (graph_of (g.shape s) (running_on g s pages)) (graph_of (g.shape t) (running_on g t mid)) call (change.Changed (Some n))) (used : IsUsedNode g s pages n) (there : IsSome (page_of pages (page_of_node n)))
   where
     abbrev sh : Shape
@@ -131,7 +136,7 @@ module _ {D : Type 0} (g : Ghosts D) (s : D) (pages : Pages) (free : Spaces) (vo
     no_root : n ≢ 0
     no_root = not_root free (graph_of sh was) (graph_of (g.shape t) halfway) n call (named_once sh was runs.entries runs.nodes) names
 
-    module _ (now : Pages) (after : Spaces) (d : DropsNode n mid now between after) where
+    module _ (fits : FreeFits g s pages free) (now : Pages) (after : Spaces) (d : DropsNode n mid now between after) where
       abbrev is : VirtualMap
       is = running_on g t now
 
@@ -150,6 +155,23 @@ module _ {D : Type 0} (g : Ghosts D) (s : D) (pages : Pages) (free : Spaces) (vo
       unused_now : graph_of sh is n ≡ record { generation = put.generation; body = unused }
       unused_now = node_is sh (bounds-of sh volume) halfway is n put addresses used.1.below refl node
 
+      same_generation : (k : ℕ) → (graph_of sh is k).generation ≡ (graph_of sh halfway k).generation
+      same_generation k = by (cases_eq k n)
+        where
+          by : (k ≡ n) ⊎ (k ≡ n → ⊥) → (graph_of sh is k).generation ≡ (graph_of sh halfway k).generation
+          by (inr far) = ap (λ (x : GraphNode). x.generation) (others k far)
+          by (inl e) =
+              ap (λ (i : ℕ). (graph_of sh is i).generation) e ∙ ap (λ (x : GraphNode). x.generation) unused_now
+              ∙ sym (generation_at sh halfway n d.rec used.1.below (had g t mid between volume_then n c.runs c.fits below_then there_then no_root now after d))
+              ∙ sym (ap (λ (i : ℕ). (graph_of sh halfway i).generation) e)
+
+      in_use : is_free_node free n ≡ false
+      in_use = by (is_free_node free n) refl
+        where
+          by : (b : Bool) → is_free_node free n ≡ b → is_free_node free n ≡ false
+          by false e = e
+          by true e = absurd ((fits.nodes.each n used.1.below).0 e used.0 used.1)
+
       none_held : held_by n (graph_of sh is n) ≡ []
       none_held = ap (held_by n) unused_now
 
@@ -162,6 +184,8 @@ module _ {D : Type 0} (g : Ghosts D) (s : D) (pages : Pages) (free : Spaces) (vo
         kept = both pages mid now c.pages (changes g t mid between volume_then n c.runs c.fits below_then there_then no_root now after d);
         runs = runs_now g t mid between volume_then n c.runs c.fits below_then there_then no_root now after d;
         fits = fits_now g t mid between volume_then n c.runs c.fits below_then there_then no_root now after d;
+        takes = takes_dropped n (slots_of d.rec) [] free between d.between after (graph_of sh was) (graph_of (g.shape t) halfway) (graph_of (g.shape t) is) c.takes in_use d.addresses d.number
+            (subst (λ (h : Shape). (k : ℕ) → (graph_of h is k).generation ≡ (graph_of h halfway k).generation) (sym shapes) same_generation);
         names = changes_names free (graph_of sh was) (graph_of (g.shape t) halfway) (graph_of (g.shape t) is) n
             (subst (λ (h : Shape). (k : ℕ) → k ≢ n → graph_of h is k ≡ graph_of h halfway k) (sym shapes) others)
             (ap (λ (h : Shape). (graph_of h is n).body) shapes ∙ ap (λ (x : GraphNode). x.body) unused_now) call names;

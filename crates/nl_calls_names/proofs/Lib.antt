@@ -7,4 +7,5 @@ pub mod Holders
 pub mod Named
 pub mod Settled
 pub mod Stepped
+pub mod Taken
 pub mod Unused

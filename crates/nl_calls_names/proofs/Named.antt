@@ -31,11 +31,13 @@ use Rattle.nl_calls_steps.proofs.Stepping.{read_alike, reads_rise, steps_then}
 use Rattle.nl_namespace.specs.Calls.{ChangesInTree, ChangesNames}
 use Rattle.nl_namespace.specs.Changing.{Changes, ChangeLeaves}
 use Rattle.nl_namespace.specs.Reading.{change_stop}
+use Rattle.nl_namespace.specs.Taking.{TakesLeast}
 use Rattle.nl_namespace.specs.declared.answer.Change.{Change}
 use Rattle.nl_namespace.specs.declared.answer.Change.TheVariants as change
+use Rattle.nl_namespace.proofs.Taking.{takes-none}
 use Rattle.nl_calls_names.specs.Dropping.{DropsNode}
 use Rattle.nl_calls_names.specs.Gathering.{GathersOn, OpensNode, graph_on, node_lost, pointers_of_node}
-use Rattle.nl_calls_names.specs.Naming.{AnswersAs, EndsAsStep, MetadataRepresents, answer_of, naming_stop, stopped_by}
+use Rattle.nl_calls_names.specs.Naming.{AnswersAs, EndsAsStep, MetadataRepresents, TakesLeastOn, answer_of, naming_stop, stopped_by}
 use Rattle.nl_core.specs.Lines.{Withdraws}
 use Rattle.nl_calls_names.specs.Settling.{CanDrop, IfGone, SettlesChange}
 use Rattle.nl_calls_names.specs.declared.answer.Naming.{Naming}
@@ -54,6 +56,7 @@ pub record Named {D : Type 0} (g : Ghosts D) (call : Call) (v x : Core D) (answe
   pub steps : Steps g v x
   pub flight : x.flight ≡ v.flight
   pub answers : AnswersAs g call v x answer
+  pub takes : TakesLeastOn g v x
   pub reads : ReadsExplainStop g v.device x.device (naming_stop answer)
 
 stop_same : (answer : Change) → naming_stop (answer_of answer) ≡ change_stop answer
@@ -85,6 +88,11 @@ module _ {D : Type 0} (g : Ghosts D) (v : Core D) (core : IsCore g v) (volume : 
   pub flight_stays : x.flight ≡ v.flight
   flight_stays = ap (λ (y : Core D). y.flight) on.others
 
+  pub takes_nothing : TakesLeastOn g v x
+  takes_nothing =
+      subst (λ (z : Spaces). TakesLeast v.nodes z (graph_on g v) (graph_on g x)) (sym (ap (λ (y : Core D). y.nodes) on.others))
+      (takes-none v.nodes (graph_on g v) (graph_on g x) (λ k. ap (λ (z : Graph). (z k).generation) (same_graph g v read volume on)))
+
   pub tree_stays : (page_of_stamp : ℕ → Option PageOfStamp) (tree : Tree) → MetadataRepresents g v page_of_stamp tree → MetadataRepresents g x page_of_stamp tree
   tree_stays = alike.trees
 
@@ -108,6 +116,7 @@ module _ {D : Type 0} (g : Ghosts D) (call : Call) (v : Core D) (core : IsCore g
     steps = steps_stay g v core volume w gathers.reads as_were gathers.room formed stores;
     flight = flight_stays g v core volume w gathers.reads as_were gathers.room formed stores;
     answers = λ page_of_stamp tree h. ends stop page_of_stamp tree (tree_stays g v core volume w gathers.reads as_were gathers.room formed stores page_of_stamp tree h);
+    takes = takes_nothing g v core volume w gathers.reads as_were gathers.room formed stores;
     reads = subst (λ (o : Option Stop). ReadsExplainStop g v.device w.device o) (sym (stops stop)) reads;
   }
 
@@ -134,6 +143,12 @@ module _ {D : Type 0} (g : Ghosts D) (call : Call) (v : Core D) (core : IsCore g
   graphs : graph_on g u ≡ graph_on g v
   graphs = same_graph g v u volume gathers.reads
 
+  -- what is taken since the pages were read is taken since before
+  takes_first : (z : Core D) → TakesLeastOn g u z → TakesLeastOn g v z
+  takes_first z takes =
+      subst (λ (h : Graph). TakesLeast v.nodes z.nodes h (graph_on g z)) graphs
+      (subst (λ (n : Spaces). TakesLeast n z.nodes (graph_on g u) (graph_on g z)) (ap (λ (y : Core D). y.nodes) gathers.reads.others) takes)
+
   module _ (d : D) (q : Pages) (s : Spaces) (answer : Change) (names : ChangesNames w.nodes (graph_on g w) (graph_of (g.shape d) (running_on g d q)) call answer) (left : ChangeLeaves g w.device w.meta w.nodes d q s answer)
       (reads : ReadsExplainStop g w.device d (change_stop answer)) where
     abbrev mid : Core D
@@ -151,7 +166,7 @@ module _ {D : Type 0} (g : Ghosts D) (call : Call) (v : Core D) (core : IsCore g
       gone_names : ChangesNames w.nodes (graph_on g w) (graph_of (g.shape d) (running_on g d q)) call (change.Changed (Some n))
       gone_names = subst (λ (a : Change). ChangesNames w.nodes (graph_on g w) (graph_of (g.shape d) (running_on g d q)) call a) is names
 
-      gone_left : Changes g w.device w.meta d q s (Some n)
+      gone_left : Changes g w.device w.meta w.nodes d q s (Some n)
       gone_left = subst (λ (a : Change). ChangeLeaves g w.device w.meta w.nodes d q s a) is left
 
       lost_is : node_lost (graph_on g v) call ≡ Some n
@@ -181,7 +196,7 @@ module _ {D : Type 0} (g : Ghosts D) (call : Call) (v : Core D) (core : IsCore g
 
       module _ (now : Pages) (after : Spaces) (drops : DropsNode n q now s after) where
         pub dropped : Ended g w.device w.meta w.nodes d now after call (Some n)
-        dropped = ended_dropped g w.device w.meta w.nodes volume_u core_then.journaled.runs d q s call n gone_left gone_names used_then opened.there now after drops
+        dropped = ended_dropped g w.device w.meta w.nodes volume_u core_then.journaled.runs d q s call n gone_left gone_names used_then opened.there (fits_of g u core_then) now after drops
 
         pub dropped_items : w.freeing.items ≡ u.freeing.items ++ pointers_of_node (graph_on g u) (Some n)
         dropped_items = gathers.items ∙ ap (λ (o : Option ℕ). v.freeing.items ++ pointers_of_node (graph_on g v) o) lost_is ∙ ap (λ (z : Graph). v.freeing.items ++ pointers_of_node z (Some n)) (sym graphs)
@@ -221,6 +236,7 @@ module _ {D : Type 0} (g : Ghosts D) (call : Call) (v : Core D) (core : IsCore g
           steps = steps_then g v u renamed read_first.steps (renamed_step g u d now after f call gone e faults items room);
           flight = ap (λ (y : Core D). y.flight) gathers.reads.others;
           answers = subst (λ (a : Naming). AnswersAs g call v renamed a) (sym done) answers;
+          takes = takes_first renamed e.takes;
           reads = reads_all;
         }
 
@@ -250,6 +266,7 @@ module _ {D : Type 0} (g : Ghosts D) (call : Call) (v : Core D) (core : IsCore g
           steps = steps_then g v u y read_first.steps (steps_stay g u core_then volume_u y on_u items room formed stores);
           flight = flight_stays g u core_then volume_u y on_u items room formed stores ∙ ap (λ (z : Core D). z.flight) gathers.reads.others;
           answers = λ page_of_stamp tree h. ends page_of_stamp tree (read_first.trees page_of_stamp tree h) (stands_y page_of_stamp tree h);
+          takes = takes_first y (takes_nothing g u core_then volume_u y on_u items room formed stores);
           reads = reads_all;
         })
 

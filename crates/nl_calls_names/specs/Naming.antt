@@ -13,6 +13,8 @@ use Rattle.nl_core.specs.Core.{running_of}
 use Rattle.nl_core.specs.declared.state.Core.{Core}
 use Rattle.nl_namespace.specs.declared.answer.Change.{Change}
 use Rattle.nl_namespace.specs.declared.answer.Change.TheVariants as change
+use Rattle.nl_namespace.specs.Taking.{TakesLeast}
+use Rattle.nl_calls_names.specs.Gathering.{graph_on}
 use Rattle.nl_calls_names.specs.declared.answer.Naming.{Naming}
 use Rattle.nl_calls_names.specs.declared.answer.Naming.TheVariants as naming
 
@@ -35,6 +37,10 @@ abbrev pub AnswersAs : {D : Type 0} → Ghosts D → Call → Core D → Core D 
 AnswersAs g call old new answer =
     (page_of_stamp : ℕ → Option PageOfStamp) (tree : Tree) → MetadataRepresents g old page_of_stamp tree
     → EndsAsStep g call new page_of_stamp tree answer
+
+-- A new node of a core has the least free number and the next generation, and a new page the least free address.
+abbrev pub TakesLeastOn : {D : Type 0} → Ghosts D → Core D → Core D → Type 0
+TakesLeastOn g old new = TakesLeast old.nodes new.nodes (graph_on g old) (graph_on g new)
 
 -- what ended the call early
 abbrev pub naming_stop : Naming → Option Stop

@@ -3,7 +3,7 @@ ghost use Rattle.nl_core.specs.Core.{IsCore};
 ghost use Rattle.nl_dir.specs.Directory.{HasRoomForDirty};
 ghost use Rattle.nl_calls_steps.specs.Steps.{Steps};
 ghost use Rattle.nl_namespace.specs.Calls.{PathsHaveNames, IsOfNames};
-ghost use Rattle.nl_calls_names.specs.Naming.{AnswersAs, naming_stop};
+ghost use Rattle.nl_calls_names.specs.Naming.{AnswersAs, TakesLeastOn, naming_stop};
 ghost use Rattle.nl_meta_running.specs.Reading.{ReadsExplainStop};
 
 use crate::answer::{Naming, stopped};
@@ -18,9 +18,10 @@ use nl_tree::Call;
 
 /// Does a call that changes names: mkdir, rmdir, create, unlink or rename. It asks room for nine more dirty pages. `Done` comes where the
 /// step of the tree is done, and the core stands for the tree after it: the pages of a file that lost its name await their free, and its
-/// addresses and its number are free. `No` comes with the refusal of the step, also where a name or a path is too long and where there is
-/// no room; `Fault` where a read failed; and `Lost` where a page does not hold the sequence number under which its address was written. All
-/// of them leave the tree as it was.
+/// addresses and its number are free. A new node has the least free number and the generation after the last one of that number, a new
+/// page the least free address. `No` comes with the refusal of the step, also where a name or a path is too long and where there is no
+/// room; `Fault` where a read failed; and `Lost` where a page does not hold the sequence number under which its address was written. All of
+/// them leave the tree as it was.
 pub fn change_names<D: MovingPages>(core: &mut Core<D>, call: &Call) -> Naming
     requires core { IsCore D.Counts core.old }
     requires names { PathsHaveNames call.now }
@@ -30,6 +31,7 @@ pub fn change_names<D: MovingPages>(core: &mut Core<D>, call: &Call) -> Naming
     ensures steps { Steps D.Counts core.old core.new }
     ensures flight { core.new.flight ≡ core.old.flight }
     ensures answer { AnswersAs D.Counts call.now core.old core.new result }
+    ensures takes { TakesLeastOn D.Counts core.old core.new }
     ensures reads { ReadsExplainStop D.Counts core.old.device core.new.device (naming_stop result) }
 {
     device_stands(&core.device);

@@ -19,6 +19,7 @@ use Rattle.nl_tree.specs.GraphLaws.{entry_at}
 use Rattle.nl_tree.specs.Represents.{node_of}
 use Rattle.nl_namespace.specs.Entering.{PutsIn, TakesOut}
 use Rattle.nl_namespace.proofs.DirectorySteps.{dir-node}
+use Rattle.nl_namespace.proofs.NodeChanges.{graph-at}
 use Rattle.nl_namespace.proofs.PutSteps.{put-at, put-back, put-dir, put-else, put-follows, put-needs, put-node, put-others, put-was}
 use Rattle.nl_namespace.proofs.States.{Follows, State}
 use Rattle.nl_namespace.proofs.TakeSteps.{fewer-uses, take-at, take-back, take-dir, take-else, take-follows, take-node, take-others, take-was}
@@ -33,6 +34,7 @@ pub record EntryStep (shape : Shape) (device : VirtualMap) (d : ℕ) (name : Lis
   pub node : (k : ℕ) (r : InodeRec) → k ≢ d → IsNode shape (running_over device p) k r → IsNode shape (running_over device q) k r
   pub back : (k : ℕ) (r : InodeRec) → k ≢ d → IsNode shape (running_over device q) k r → IsNode shape (running_over device p) k r
   pub needs : (b : ℕ) → UsesAddress shape (running_over device q) b → UsesAddress shape (running_over device p) b ⊎ IsSome (page_of q b)
+  pub generations : (k : ℕ) → (graph_of shape (running_over device q) k).generation ≡ (graph_of shape (running_over device p) k).generation
 
 at-node : (old new : Graph) (k : ℕ) → new k ≡ old k → (x : List ℕ) → entry_at new k x ≡ entry_at old k x
 at-node old new k e x = ap (λ (z : GraphNode). entry_at (λ i. z) k x) e
@@ -65,6 +67,20 @@ module _ (shape : Shape) (device : VirtualMap) (d : ℕ) (p q : Pages) where
           ∙ sym (dir-node shape (running_over device p) d was at-was was-dir bytes_of)
           ∙ sym (ap (λ (i : ℕ). node_of bytes_of (one i).body) e)
 
+  -- the generations stay where that of the directory does
+  stay-generations : ((k : ℕ) → k ≢ d → two k ≡ one k) → (was is : InodeRec) → IsNode shape (running_over device p) d was → IsNode shape (running_over device q) d is → is.generation ≡ was.generation
+      → (k : ℕ) → (two k).generation ≡ (one k).generation
+  stay-generations others was is at-was at-is same k = by (cases_eq k d)
+    where
+      by : (k ≡ d) ⊎ (k ≡ d → ⊥) → (two k).generation ≡ (one k).generation
+      by (inr off) = ap (λ (z : GraphNode). z.generation) (others k off)
+      by (inl e) =
+          ap (λ (i : ℕ). (two i).generation) e
+          ∙ ap (λ (z : GraphNode). z.generation) (graph-at shape (running_over device q) d is at-is.below at-is.spelled)
+          ∙ same
+          ∙ sym (ap (λ (z : GraphNode). z.generation) (graph-at shape (running_over device p) d was at-was.below at-was.spelled))
+          ∙ sym (ap (λ (i : ℕ). (one i).generation) e)
+
 module _ (shape : Shape) (bounds : ShapeBounds shape) (device : VirtualMap) (d : ℕ) (p q : Pages) (s t : Spaces) (state : State shape device p s) (below : d < shape.nodes) where
   -- an entry that is taken out
   pub taken-step : (name : List ℕ) → TakesOut d name p q s t → EntryStep shape device d name None 3 p q
@@ -78,6 +94,7 @@ module _ (shape : Shape) (bounds : ShapeBounds shape) (device : VirtualMap) (d :
     node = take-node shape bounds device d name p q s t state below takes;
     back = take-back shape bounds device d name p q s t state below takes;
     needs = λ b u. inl (fewer-uses shape bounds device d name p q s t state below takes b u);
+    generations = stay-generations shape device d p q others takes.rec _ (take-was shape bounds device d name p q s t state below takes) (take-dir shape bounds device d name p q s t state below takes) refl;
   }
     where
       others : (k : ℕ) → k ≢ d → graph_of shape (running_over device q) k ≡ graph_of shape (running_over device p) k
@@ -95,6 +112,7 @@ module _ (shape : Shape) (bounds : ShapeBounds shape) (device : VirtualMap) (d :
     node = put-node shape bounds device d entry p q s t state below puts;
     back = put-back shape bounds device d entry p q s t state below puts;
     needs = put-needs shape bounds device d entry p q s t state below puts;
+    generations = stay-generations shape device d p q others puts.rec _ (put-was shape bounds device d entry p q s t state below puts) (put-dir shape bounds device d entry p q s t state below puts) refl;
   }
     where
       others : (k : ℕ) → k ≢ d → graph_of shape (running_over device q) k ≡ graph_of shape (running_over device p) k
@@ -111,6 +129,7 @@ absent-step shape device d name p none = record {
   node = λ k r far is. is;
   back = λ k r far is. is;
   needs = λ b u. inl u;
+  generations = λ k. refl;
 }
   where
     few : (xs : List ℕ) → length xs ≤ length xs + 0

@@ -17,6 +17,7 @@ mod Placing
 mod PointersStay
 mod PutSteps
 mod States
+pub mod Taking
 mod TakeSteps
 mod Texts
 mod Order

@@ -63,12 +63,12 @@ module _ {D : Type 0} (g : Ghosts D) (s : D) (p : Pages) (t : D) (q : Pages) (vo
     makes-later : MakesIn place.dir m kind at-later.name q r free after
     makes-later = subst (λ (x : List ℕ). MakesIn place.dir m kind x q r free after) (sym (last-name g t q path place at-later other last)) makes
 
-    pub made-name : MakesName (graph_of (g.shape s) (running_on g s p)) (graph_of (g.shape t) (running_on g t r)) path (empty_node kind)
-    made-name = subst (λ (z : Graph). MakesName z (graph_of (g.shape t) (running_on g t r)) path (empty_node kind)) (then-graph g s p t q volume on)
-        (makes-name g t q r free after later runs-later fits-later path place at-later absent m kind used spare.least.free_itself there makes-later)
+    pub made-name : MakesName (graph_of (g.shape s) (running_on g s p)) (graph_of (g.shape t) (running_on g t r)) path m (empty_node kind)
+    made-name = subst (λ (z : Graph). MakesName z (graph_of (g.shape t) (running_on g t r)) path m (empty_node kind)) (then-graph g s p t q volume on)
+        (makes-name g t q r free after later runs-later fits-later path place at-later absent m kind used spare.least there makes-later)
 
-    pub made-changes : Changes g s p t r after None
-    made-changes = changes-after g s p t q volume on t r after None (changes g t q r free after later runs-later fits-later path place at-later absent m kind used spare.least.free_itself there makes-later)
+    pub made-changes : Changes g s p free t r after None
+    made-changes = changes-after g s p t q volume on t r free after None (changes g t q r free after later runs-later fits-later path place at-later absent m kind used spare.least there makes-later)
 
 -- ---- names of a path
 

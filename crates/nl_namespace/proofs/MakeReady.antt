@@ -32,6 +32,7 @@ use Rattle.nl_namespace.specs.Making.{FitsNew, HasRoomForNode}
 use Rattle.nl_namespace.specs.Naming.{HasRoomForName, IsFull, LacksRoom, MakesNode, NameIn, refusal_of_name}
 use Rattle.nl_namespace.specs.Paths.{walk_refusal}
 use Rattle.nl_namespace.specs.Placing.{IsPlaceOfPath}
+use Rattle.nl_namespace.specs.Taking.{TakesLeast}
 use Rattle.nl_namespace.specs.declared.place.Place.{Place}
 use Rattle.nl_namespace.specs.declared.answer.Change.{Change}
 use Rattle.nl_namespace.specs.declared.answer.Change.TheVariants as change
@@ -109,8 +110,8 @@ module _ {D : Type 0} (g : Ghosts D) (s : D) (p : Pages) (volume : IsVolumeShape
     full = subst (λ (c : ℕ). IsFull free c space) (sym count-is) full;
   }
 
-  pub has-place : (free : Spaces) (m : ℕ) → HasRoomForNode free place.rec.size m → HasRoomForName free graph path
-  has-place free m spare = record { n = place.dir; name = at.name; place = at.named; m = m; spare = subst (λ (c : ℕ). HasRoomForNode free c m) (sym count-is) spare }
+  pub has-place : (free : Spaces) (m : ℕ) → HasRoomForNode free place.rec.size m → HasRoomForName free graph path m
+  has-place free m spare = record { n = place.dir; name = at.name; place = at.named; spare = subst (λ (c : ℕ). HasRoomForNode free c m) (sym count-is) spare }
 
   pub size-fits : place.rec.size ≤ 1024
   size-fits = (spelled-dir place.rec at.is_dir is-directory.places.spelled).few
@@ -223,14 +224,15 @@ module _ {D : Type 0} (g : Ghosts D) (s : D) (p : Pages) (t : D) (q : Pages) (vo
       after : (n slot a : ℕ) → AddressAt (g.shape s) (running_on g s p) n slot a → AddressAt (g.shape t) (running_on g t q) n slot a
       after n slot a x = record { rec = x.rec; is_node = then-node g s p t q volume on n x.rec x.is_node; in_slot = x.in_slot; not_zero = x.not_zero }
 
-  pub changes-after : (u : D) (r : Pages) (free : Spaces) (gone : Option ℕ) → Changes g t q u r free gone → Changes g s p u r free gone
-  changes-after u r free lost c = record {
+  pub changes-after : (u : D) (r : Pages) (free after : Spaces) (gone : Option ℕ) → Changes g t q free u r after gone → Changes g s p free u r after gone
+  changes-after u r free after lost c = record {
     reads = reads_then g s t u on.reads c.reads;
     frozen = c.frozen ∙ on.frozen;
     pages = both p q r (loaded p q (loads-on g s p t q on)) c.pages;
     few = let f = c.few in let e = ap (λ (ds : List ℕ). length (besides_0 ds)) on.dirty in omega (arith, f, e);
     runs = c.runs;
     fits = c.fits;
+    takes = subst (λ (z : Graph). TakesLeast free after z (graph_of (g.shape u) (running_on g u r))) same-graph c.takes;
     files = λ n rec is file.
         let f = c.files n rec (then-node g s p t q volume on n rec is) file in
         record { is_node = f.is_node; graph = f.graph ∙ ap (λ (z : Graph). z n) same-graph };
@@ -238,7 +240,7 @@ module _ {D : Type 0} (g : Ghosts D) (s : D) (p : Pages) (t : D) (q : Pages) (vo
   }
 
   pub leaves-after : (u : D) (r : Pages) (free after : Spaces) (answer : Change) → ChangeLeaves g t q free u r after answer → ChangeLeaves g s p free u r after answer
-  leaves-after u r free after (change.Changed lost) l = changes-after u r after lost l
+  leaves-after u r free after (change.Changed lost) l = changes-after u r free after lost l
   leaves-after u r free after (change.No refusal) l = (then-on g s p t q volume on u r l.0, l.1)
   leaves-after u r free after change.Fault l = (then-on g s p t q volume on u r l.0, l.1)
   leaves-after u r free after (change.Lost w f) l = (then-on g s p t q volume on u r l.0, l.1)

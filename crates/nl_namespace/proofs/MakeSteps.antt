@@ -1,5 +1,5 @@
 -- A node under a new name, in a volume that runs over a device.
-use Rattle.std.proofs.Common.{◌≡◌, ◌≢◌, ℕ, ◌<◌, Bool, true, false, cond, List, [], refl, sym, ap, subst, ◌∙◌, Option, Some, None, option_map, is_some, IsSome, ◌⊎◌, inl, inr, arith}
+use Rattle.std.proofs.Common.{◌≡◌, ◌≢◌, ℕ, ◌+◌, ◌%◌, ◌^◌, ◌<◌, Bool, true, false, cond, List, [], refl, sym, ap, subst, ◌∙◌, Option, Some, None, option_map, is_some, IsSome, ◌⊎◌, inl, inr, arith}
 use Rattle.std.proofs.lemmas.Bool.{cases_eq}
 use Rattle.std.specs.Ordering.{eq_by_cmp, nat_cmp}
 use Rattle.std.specs.Cmp.Lexicographic.{slice_cmp}
@@ -18,6 +18,7 @@ use Rattle.nl_meta.specs.Nodes.{graph_of, held_by, inode_at}
 use Rattle.nl_meta.specs.Pages.{Pages, page_of}
 use Rattle.nl_meta.specs.Running.{running_over}
 use Rattle.nl_meta.proofs.Lists.{none_some, some_in}
+use Rattle.nl_inode.specs.Free.{IsLeastFreeNumber}
 use Rattle.nl_inode.specs.FreeLaws.{UsesAddress}
 use Rattle.nl_inode.specs.Nodes.{Spaces, is_free_node, page_of_node, taken_as}
 use Rattle.nl_inode.proofs.MarkTree.{set-below}
@@ -33,13 +34,17 @@ use Rattle.nl_namespace.specs.Changing.{Changes, FileStays, FreeFits}
 use Rattle.nl_namespace.specs.Making.{MakesIn, empty_node}
 use Rattle.nl_namespace.specs.Naming.{MakesName}
 use Rattle.nl_namespace.specs.Placing.{IsPlaceOfPath}
+use Rattle.nl_namespace.specs.Taking.{TakesLeast}
 use Rattle.nl_namespace.specs.declared.place.Place.{Place}
 use Rattle.nl_namespace.proofs.DirectorySteps.{dir-entry, dir-node}
+use Rattle.nl_namespace.proofs.EntrySteps.{put-step}
 use Rattle.nl_namespace.proofs.Links.{Led, entry-listed, led-of-lists, lists-of-graph, once-of-lists}
+use Rattle.nl_namespace.proofs.NodeChanges.{graph-at}
 use Rattle.nl_namespace.proofs.NodeSteps.{new-back, new-body, new-childless, new-follows, new-keeps, new-node, new-others, new-state, new-uses, not-root}
 use Rattle.nl_namespace.proofs.PointersStay.{held-bare, held-dir, held-unused, no-page, pages-of, tagged-same}
-use Rattle.nl_namespace.proofs.PutSteps.{put-at, put-back, put-dir, put-else, put-follows, put-needs, put-node, put-others, put-state}
+use Rattle.nl_namespace.proofs.PutSteps.{node-over, put-at, put-back, put-dir, put-else, put-follows, put-needs, put-node, put-others, put-state}
 use Rattle.nl_namespace.proofs.States.{Follows, State, follows-then}
+use Rattle.nl_namespace.proofs.Taking.{takes-number, takes-of}
 
 -- ---- any volume
 
@@ -68,7 +73,7 @@ pub fits-of : {D : Type 0} (g : Ghosts D) (s : D) (p : Pages) (free : Spaces) �
 fits-of g s p free state = record { count_nodes = state.count_nodes; count_pool = state.count_pool; nodes = state.nodes; pool = state.pool }
 
 module _ {D : Type 0} (g : Ghosts D) (s : D) (p q : Pages) (free after : Spaces) (volume : IsVolumeShape (g.shape s)) (runs : RunningIsRight g s p) (fits : FreeFits g s p free) (path : List (List ℕ)) (place : Place) (at : IsPlaceOfPath g s p path place)
-    (absent : place.entry ≡ None) (m : ℕ) (kind : Kind) (used : kind ≢ Unused) (is-free : is_free_node free m ≡ true) (there : IsSome (page_of p (page_of_node m))) (makes : MakesIn place.dir m kind at.name p q free after) where
+    (absent : place.entry ≡ None) (m : ℕ) (kind : Kind) (used : kind ≢ Unused) (least : IsLeastFreeNumber m free.nodes) (there : IsSome (page_of p (page_of_node m))) (makes : MakesIn place.dir m kind at.name p q free after) where
   abbrev shape : Shape
   shape = g.shape s
 
@@ -90,6 +95,9 @@ module _ {D : Type 0} (g : Ghosts D) (s : D) (p q : Pages) (free after : Spaces)
   abbrev n : ℕ
   n = place.dir
 
+  is-free : is_free_node free m ≡ true
+  is-free = least.free_itself
+
   below : m < shape.nodes
   below = let h = set-below free.nodes m is-free in let c = fits.count_nodes in omega (arith, h, c)
 
@@ -103,15 +111,15 @@ module _ {D : Type 0} (g : Ghosts D) (s : D) (p q : Pages) (free after : Spaces)
   state = state-of g s p runs free fits
 
   state1 : State shape device makes.between makes.free
-  state1 = new-state shape bounds device m kind makes.generation p makes.between free makes.free state below used unused there makes.node makes.taken
+  state1 = new-state shape bounds device m kind makes.was.generation p makes.between free makes.free state below used unused there makes.node makes.taken
 
-  node-at : (k : ℕ) → k ≡ m → IsNode shape mid k (taken_as kind makes.generation)
-  node-at k e = subst (λ (i : ℕ). IsNode shape mid i (taken_as kind makes.generation)) (sym e) (new-node shape bounds device m kind makes.generation p makes.between free makes.free state below used unused there makes.node makes.taken)
+  node-at : (k : ℕ) → k ≡ m → IsNode shape mid k (taken_as kind makes.was.generation)
+  node-at k e = subst (λ (i : ℕ). IsNode shape mid i (taken_as kind makes.was.generation)) (sym e) (new-node shape bounds device m kind makes.was.generation p makes.between free makes.free state below used unused there makes.node makes.taken)
 
   good : GoodEntry shape mid makes.entry
   good = record {
-    no_root = λ e. not-root shape bounds device m kind makes.generation p makes.between free makes.free state below used unused there makes.node makes.taken (sym makes.is_entry.0 ∙ e);
-    target = taken_as kind makes.generation;
+    no_root = λ e. not-root shape bounds device m kind makes.was.generation p makes.between free makes.free state below used unused there makes.node makes.taken (sym makes.is_entry.0 ∙ e);
+    target = taken_as kind makes.was.generation;
     is_node = node-at makes.entry.ino makes.is_entry.0;
     generation = sym makes.is_entry.1;
   }
@@ -129,7 +137,7 @@ module _ {D : Type 0} (g : Ghosts D) (s : D) (p q : Pages) (free after : Spaces)
   g2 = graph_of shape two
 
   first-others : (k : ℕ) → k ≢ m → g1 k ≡ g0 k
-  first-others k far = new-others shape bounds device m kind makes.generation p makes.between free makes.free state below used unused there makes.node makes.taken k far
+  first-others k far = new-others shape bounds device m kind makes.was.generation p makes.between free makes.free state below used unused there makes.node makes.taken k far
 
   then-others : (k : ℕ) → k ≢ n → g2 k ≡ g1 k
   then-others k far = put-others shape bounds device n makes.entry makes.between q makes.free after state1 at.is_node.below makes.puts k far
@@ -172,12 +180,12 @@ module _ {D : Type 0} (g : Ghosts D) (s : D) (p q : Pages) (free after : Spaces)
   pub adds : (bytes_of : ℕ → List ℕ) → AddsEntry bytes_of bytes_of g0 g2 n m at.name (empty_node kind)
   adds bytes_of = record {
     there = named;
-    childless = λ x. at-node g1 g2 m (then-others m (λ e. dir-is (sym e))) x ∙ new-childless shape bounds device m kind makes.generation p makes.between free makes.free state below used unused there makes.node makes.taken x;
+    childless = λ x. at-node g1 g2 m (then-others m (λ e. dir-is (sym e))) x ∙ new-childless shape bounds device m kind makes.was.generation p makes.between free makes.free state below used unused there makes.node makes.taken x;
     others = λ k x far off. at-node g0 g2 k (others k far off) x;
     no_entry = no-entry;
     unnamed = unnamed;
-    no_root = not-root shape bounds device m kind makes.generation p makes.between free makes.free state below used unused there makes.node makes.taken;
-    node_there = body-node bytes_of g1 g2 m (then-others m (λ e. dir-is (sym e))) ∙ new-body shape bounds device m kind makes.generation p makes.between free makes.free state below used unused there makes.node makes.taken bytes_of;
+    no_root = not-root shape bounds device m kind makes.was.generation p makes.between free makes.free state below used unused there makes.node makes.taken;
+    node_there = body-node bytes_of g1 g2 m (then-others m (λ e. dir-is (sym e))) ∙ new-body shape bounds device m kind makes.was.generation p makes.between free makes.free state below used unused there makes.node makes.taken bytes_of;
     bodies_stay = λ k off. body k off (cases_eq k n);
   }
     where
@@ -191,8 +199,8 @@ module _ {D : Type 0} (g : Ghosts D) (s : D) (p q : Pages) (free after : Spaces)
           dir-after : makes.puts.rec.kind ≡ Dir
           dir-after = makes.puts.has.directory.places.is_dir
 
-  pub makes-name : MakesName g0 g2 path (empty_node kind)
-  makes-name = record { n = n; m = m; name = at.name; place = at.named; adds = adds }
+  pub makes-name : MakesName g0 g2 path m (empty_node kind)
+  makes-name = record { n = n; name = at.name; place = at.named; adds = adds }
 
   led-kept : (k : ℕ) → Led g0 k → Led g2 k
   led-kept k Led.at_root = Led.at_root
@@ -218,11 +226,11 @@ module _ {D : Type 0} (g : Ghosts D) (s : D) (p q : Pages) (free after : Spaces)
       by (inr off) (inl e) = subst (Led g2) (sym e) dir-led
       by (inr off) (inr far) =
           led-kept k (led g s p runs k rec
-          (new-back shape bounds device m kind makes.generation p makes.between free makes.free state below used unused there makes.node makes.taken k rec off
+          (new-back shape bounds device m kind makes.was.generation p makes.between free makes.free state below used unused there makes.node makes.taken k rec off
           (put-back shape bounds device n makes.entry makes.between q makes.free after state1 at.is_node.below makes.puts k rec far is)))
 
   follows : Follows device p q 3
-  follows = follows-then device p makes.between q 1 2 (new-follows shape bounds device m kind makes.generation p makes.between free makes.free state below used unused there makes.node makes.taken)
+  follows = follows-then device p makes.between q 1 2 (new-follows shape bounds device m kind makes.was.generation p makes.between free makes.free state below used unused there makes.node makes.taken)
       (put-follows shape bounds device n makes.entry makes.between q makes.free after state1 at.is_node.below makes.puts)
 
   -- the pointers of each node
@@ -232,7 +240,24 @@ module _ {D : Type 0} (g : Ghosts D) (s : D) (p q : Pages) (free after : Spaces)
   held k (inr far) (inl e) =
       ap (λ (i : ℕ). held_by i (g2 i)) e ∙ held-bare m (g2 m) (ap pages-of (adds (λ v. [])).node_there ∙ no-page kind) ∙ sym (held-unused shape one m below unused) ∙ sym (ap (λ (i : ℕ). held_by i (g0 i)) e)
 
-  pub changes : Changes g s p s q after None
+  -- the generations
+  generation-before : (g0 m).generation ≡ makes.was.generation
+  generation-before = ap (λ (z : GraphNode). z.generation) (graph-at shape one m makes.was below (node-over device p m there ∙ makes.had))
+
+  generation-after : (g2 m).generation ≡ (makes.was.generation + 1) % 2 ^ 32
+  generation-after =
+      ap (λ (z : GraphNode). z.generation) (then-others m (λ e. dir-is (sym e)))
+      ∙ ap (λ (z : GraphNode). z.generation) (graph-at shape mid m (taken_as kind makes.was.generation) below (node-at m refl).spelled)
+
+  generation-stays : (k : ℕ) → k ≢ m → (g2 k).generation ≡ (g0 k).generation
+  generation-stays k far = (put-step shape bounds device n makes.between q makes.free after state1 at.is_node.below makes.entry makes.puts).generations k ∙ ap (λ (z : GraphNode). z.generation) (first-others k far)
+
+  takes : TakesLeast free after g0 g2
+  takes =
+      takes-number m free makes.free after g0 g2 least makes.taken (takes-of makes.puts.fresh makes.free after makes.puts.takes)
+      (generation-after ∙ sym (ap (λ (x : ℕ). (x + 1) % 2 ^ 32) generation-before)) generation-stays
+
+  pub changes : Changes g s p free s q after None
   changes = record {
     reads = reads-none g s;
     frozen = follows.frozen;
@@ -248,6 +273,7 @@ module _ {D : Type 0} (g : Ghosts D) (s : D) (p q : Pages) (free after : Spaces)
       clean = λ told. follows.clean (runs.clean told);
     };
     fits = fits-of g s q after state2;
+    takes = takes;
     files = files;
     pointers = tagged-same shape one two (λ k. held k (cases_eq k n) (cases_eq k m));
   }
@@ -267,7 +293,7 @@ module _ {D : Type 0} (g : Ghosts D) (s : D) (p q : Pages) (free after : Spaces)
       absent-after v (inr u) gone = by (put-needs shape bounds device n makes.entry makes.between q makes.free after state1 at.is_node.below makes.puts v u)
         where
           by : UsesAddress shape mid v ⊎ IsSome (page_of q v) → g.tells
-          by (inl u) = runs.absent v (inr ((new-uses shape bounds device m kind makes.generation p makes.between free makes.free state below used unused there makes.node makes.taken v).0 u)) (gone-before v gone)
+          by (inl u) = runs.absent v (inr ((new-uses shape bounds device m kind makes.was.generation p makes.between free makes.free state below used unused there makes.node makes.taken v).0 u)) (gone-before v gone)
           by (inr there) = absurd (not-there (ap is_some (sym gone) ∙ there))
             where
               not-there : false ≡ true → ⊥
@@ -279,7 +305,7 @@ module _ {D : Type 0} (g : Ghosts D) (s : D) (p q : Pages) (free after : Spaces)
           let far : k ≢ n = λ e. not-dir (ap (λ (r : InodeRec). r.kind) (some_in place.rec rec (sym at.is_node.spelled ∙ ap (inode_at one) (sym e) ∙ is.spelled))) in
           record {
             is_node = put-node shape bounds device n makes.entry makes.between q makes.free after state1 at.is_node.below makes.puts k rec far
-                (new-keeps shape bounds device m kind makes.generation p makes.between free makes.free state below used unused there makes.node makes.taken k rec off is);
+                (new-keeps shape bounds device m kind makes.was.generation p makes.between free makes.free state below used unused there makes.node makes.taken k rec off is);
             graph = others k far off;
           }
         where

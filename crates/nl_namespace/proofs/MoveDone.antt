@@ -50,6 +50,7 @@ use Rattle.nl_namespace.proofs.RemoveDone.{entry-name}
 use Rattle.nl_namespace.proofs.RemoveSteps.{bare-childless}
 use Rattle.nl_namespace.proofs.States.{State}
 use Rattle.nl_namespace.proofs.TakeSteps.{take-good, take-state}
+use Rattle.nl_namespace.proofs.Taking.{gives-none, gives-of}
 
 false-true : false ≡ true → ⊥
 false-true e = cc
@@ -248,11 +249,12 @@ module _ {D : Type 0} (g : Ghosts D) (s : D) (p : Pages) (t : D) (q : Pages) (vo
             (subst (λ (z : Graph). MovesName z (over r) from to (option_map (λ (e : EntryRec). e.ino) target.entry)) (then-graph g s p t q volume on)
             (moved-name g t q later runs-later from to (place_of old) target at-later at-target old.entry refl apart bare q moves.between r free moves.free after 0 (omega arith) (absent-step shape device l name_to q none-there) state good takes puts))
 
-        pub free-changes : Changes g s p t r after None
+        pub free-changes : Changes g s p free t r after None
         free-changes =
-            subst (λ (o : Option ℕ). Changes g s p t r after o) (ap (option_map (λ (e : EntryRec). e.ino)) absent)
-            (changes-after g s p t q volume on t r after (option_map (λ (e : EntryRec). e.ino) target.entry)
-            (moved-changes g t q later runs-later from to (place_of old) target at-later at-target old.entry refl apart bare q moves.between r free moves.free after 0 (omega arith) (absent-step shape device l name_to q none-there) state good takes puts))
+            subst (λ (o : Option ℕ). Changes g s p free t r after o) (ap (option_map (λ (e : EntryRec). e.ino)) absent)
+            (changes-after g s p t q volume on t r free after (option_map (λ (e : EntryRec). e.ino) target.entry)
+            (moved-changes g t q later runs-later from to (place_of old) target at-later at-target old.entry refl apart bare q moves.between r free moves.free after 0 (omega arith) (absent-step shape device l name_to q none-there) state good takes puts free
+            (gives-none free)))
 
   -- a file or an empty directory stands there
   module _ (lost : There) (lost-there : NameIsThere g s p to lost) (lost-held : DirectoryIsResident g s p q lost.dir lost.rec) (apart : is_at_or_under from to ≡ false) where
@@ -331,7 +333,8 @@ module _ {D : Type 0} (g : Ghosts D) (s : D) (p : Pages) (t : D) (q : Pages) (vo
             subst (λ (z : Graph). MovesName z (over r) from to (Some lost.entry.ino)) (then-graph g s p t q volume on)
             (moved-name g t q later runs-later from to (place_of old) place at-later at-lost old.entry refl apart bare-lost p1 moves.between r s1 moves.free after 3 (omega arith) first state1 good1 takes-old puts-new)
 
-        pub over-changes : Changes g s p t r after (Some lost.entry.ino)
+        pub over-changes : Changes g s p free t r after (Some lost.entry.ino)
         over-changes =
-            changes-after g s p t q volume on t r after (Some lost.entry.ino)
-            (moved-changes g t q later runs-later from to (place_of old) place at-later at-lost old.entry refl apart bare-lost p1 moves.between r s1 moves.free after 3 (omega arith) first state1 good1 takes-old puts-new)
+            changes-after g s p t q volume on t r free after (Some lost.entry.ino)
+            (moved-changes g t q later runs-later from to (place_of old) place at-later at-lost old.entry refl apart bare-lost p1 moves.between r s1 moves.free after 3 (omega arith) first state1 good1 takes-old puts-new free
+            (gives-of out.given free s1 out.gives))

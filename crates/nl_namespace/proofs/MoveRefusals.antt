@@ -38,6 +38,7 @@ use Rattle.nl_namespace.proofs.MakeReady.{count-is, fits-then, not-root-path, pl
 use Rattle.nl_namespace.proofs.MakeSteps.{lists}
 use Rattle.nl_namespace.proofs.NodeChanges.{graph-at}
 use Rattle.nl_namespace.proofs.RemoveDone.{length-map, one-of}
+use Rattle.nl_namespace.proofs.Taking.{takes-none}
 use Rattle.nl_namespace.proofs.DirectorySteps.{dir-entry}
 
 -- what refuses a rename, from its five tests
@@ -201,7 +202,7 @@ no-other-path free graph from to e far = absurd (true-false (sym e ∙ far))
 
 -- ---- nothing changed
 
-pub kept-changes : {D : Type 0} (g : Ghosts D) (s : D) (p : Pages) (t : D) (q : Pages) → IsVolumeShape (g.shape s) → RunningIsRight g s p → PreservesRunning g s p t q → (free : Spaces) → FreeFits g s p free → Changes g s p t q free None
+pub kept-changes : {D : Type 0} (g : Ghosts D) (s : D) (p : Pages) (t : D) (q : Pages) → IsVolumeShape (g.shape s) → RunningIsRight g s p → PreservesRunning g s p t q → (free : Spaces) → FreeFits g s p free → Changes g s p free t q free None
 kept-changes g s p t q volume runs on free fits = record {
   reads = on.reads;
   frozen = on.frozen;
@@ -209,6 +210,7 @@ kept-changes g s p t q volume runs on free fits = record {
   few = let e = ap (λ (ds : List ℕ). length (besides_0 ds)) on.dirty in omega (arith, e);
   runs = record { count = later.count; nodes = later.nodes; addresses = later.addresses; entries = later.entries; absent = later.absent; clean = later.clean };
   fits = fits-then g s p t q volume on free fits;
+  takes = takes-none free _ _ (λ k. ap (λ (z : Graph). (z k).generation) (then-graph g s p t q volume on));
   files = λ n rec is file. record { is_node = then-node g s p t q volume on n rec is; graph = ap (λ (z : Graph). z n) (then-graph g s p t q volume on) };
   pointers = tagged-read g s p t q volume on;
 }

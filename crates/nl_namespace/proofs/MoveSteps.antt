@@ -42,6 +42,7 @@ use Rattle.nl_namespace.proofs.PointersStay.{held-dir, tagged-same}
 use Rattle.nl_namespace.proofs.RemoveSteps.{gone-before, right-without}
 use Rattle.nl_namespace.proofs.States.{Follows, State, follows-then}
 use Rattle.nl_namespace.proofs.TakeSteps.{take-good, take-state}
+use Rattle.nl_namespace.proofs.Taking.{Gives, gives-of, takes-address, takes-after, takes-of}
 
 -- names at two paths of which the second does not lie at or under the first
 differ-by-path : (graph : Graph) → NamedOnce graph → (from to path path_to : List (List ℕ)) (n l : ℕ) (name name_to : List ℕ) → from ≡ path ++ name ∷ [] → to ≡ path_to ++ name_to ∷ [] → is_at_or_under from to ≡ false
@@ -197,8 +198,8 @@ module _ {D : Type 0} (g : Ghosts D) (s : D) (p : Pages) (volume : IsVolumeShape
         ap (λ (i : ℕ). held_by i (over q i)) e ∙ held-dir l (over p l) (over q l) (dir-node shape (running_over device p) l target.rec at_to.is_node at_to.is_dir (λ v. [])) (body l)
         ∙ sym (ap (λ (i : ℕ). held_by i (over p i)) e)
 
-    pub moved-changes : Changes g s p s q after (option_map (λ (e : EntryRec). e.ino) target.entry)
-    moved-changes = record {
+    pub moved-changes : (free : Spaces) → Gives free s1 → Changes g s p free s q after (option_map (λ (e : EntryRec). e.ino) target.entry)
+    moved-changes free given = record {
       reads = reads-none g s;
       frozen = follows.frozen;
       pages = follows.pages;
@@ -212,6 +213,8 @@ module _ {D : Type 0} (g : Ghosts D) (s : D) (p : Pages) (volume : IsVolumeShape
         clean = λ told. follows.clean (runs.clean told);
       };
       fits = fits-of g s q after state3;
+      takes = takes-address free after (over p) (over q) (takes-after free s1 s2 after given (gives-of takes.given s1 s2 takes.gives) (takes-of puts.fresh s2 after puts.takes))
+          (λ k. third.generations k ∙ second.generations k ∙ first.generations k);
       files = files;
       pointers = tagged-same shape (running_over device p) (running_over device q) (λ k. held k (cases_eq k n) (cases_eq k l));
     }

@@ -111,7 +111,7 @@ module _ (shape : Shape) (bounds : ShapeBounds shape) (device : VirtualMap) (d :
   is-node = record { below = below; spelled = node-over device p d puts.has.node_there ∙ puts.has.spelled; used = dir-used rec.kind puts.has.directory.places.is_dir }
 
   taken-new : (a : ℕ) → puts.fresh ≡ Some a → IsNew shape one a
-  taken-new a e = let h = subst (λ (o : Option ℕ). TakesAddress o s t) e puts.takes in is-new shape bounds device p s state a h.0
+  taken-new a e = let h = subst (λ (o : Option ℕ). TakesAddress o s t) e puts.takes in is-new shape bounds device p s state a h.0.free_itself
 
   new-page : (a : ℕ) → puts.fresh ≡ Some a → address_of_place is rec.size ≡ a
   new-page a e = ap (λ (o : Option ℕ). address_of_place (longer rec o) rec.size) e ∙ new-address rec a rec.size spelled puts.few refl

@@ -171,6 +171,6 @@ module _ {D : Type 0} (g : Ghosts D) (s : D) (p : Pages) (t : D) (q : Pages) (vo
     lost-name = subst (λ (z : Graph). LosesName z (graph_of (g.shape t) (running_on g t r)) path entry.ino) (then-graph g s p t q volume on)
         (loses-name g t q r free after later runs-later fits-later path place at-later entry named target is-later bare takes-later)
 
-    pub lost-changes : Changes g s p t r after (Some entry.ino)
-    lost-changes = changes-after g s p t q volume on t r after (Some entry.ino)
+    pub lost-changes : Changes g s p free t r after (Some entry.ino)
+    lost-changes = changes-after g s p t q volume on t r free after (Some entry.ino)
         (removed-changes g t q r free after later runs-later fits-later path place at-later entry named target is-later bare takes-later)

@@ -43,9 +43,11 @@ use Rattle.nl_namespace.proofs.DirectoryChanges.{one-node}
 use Rattle.nl_namespace.proofs.Links.{Led, listed-entry, lists-of-graph}
 use Rattle.nl_namespace.proofs.NodeChanges.{Formed, SameBut, graph-at, graph-other, node-back, node-other, own-other}
 use Rattle.nl_namespace.proofs.DirectorySteps.{dir-body, dir-entry, dir-node}
+use Rattle.nl_namespace.proofs.EntrySteps.{taken-step}
 use Rattle.nl_namespace.proofs.MakeSteps.{fits-of, led, once, state-of}
 use Rattle.nl_namespace.proofs.PointersStay.{held-dir, tagged-same}
 use Rattle.nl_namespace.proofs.States.{AllGood, Follows, State}
+use Rattle.nl_namespace.proofs.Taking.{gives-of, takes-given}
 use Rattle.nl_namespace.proofs.TakeSteps.{fewer-uses, take-at, take-back, take-dir, take-else, take-follows, take-node, take-others, take-state}
 
 at-node : (old new : Graph) (k : ℕ) → new k ≡ old k → (x : List ℕ) → entry_at new k x ≡ entry_at old k x
@@ -282,7 +284,10 @@ module _ {D : Type 0} (g : Ghosts D) (s : D) (p q : Pages) (free after : Spaces)
   held k (inr far) = ap (held_by k) (others k far)
   held k (inl e) = ap (λ (i : ℕ). held_by i (g2 i)) e ∙ held-dir n (g0 n) (g2 n) (dir-node shape one n place.rec at.is_node at.is_dir (λ v. [])) (body (λ v. []) n (inl refl)) ∙ sym (ap (λ (i : ℕ). held_by i (g0 i)) e)
 
-  pub removed-changes : Changes g s p s q after (Some m)
+  generation-stays : (k : ℕ) → (g2 k).generation ≡ (g0 k).generation
+  generation-stays = (taken-step shape bounds device n p q free after state at.is_node.below at.name takes).generations
+
+  pub removed-changes : Changes g s p free s q after (Some m)
   removed-changes = record {
     reads = reads-none g s;
     frozen = follows.frozen;
@@ -297,6 +302,7 @@ module _ {D : Type 0} (g : Ghosts D) (s : D) (p q : Pages) (free after : Spaces)
       clean = λ told. follows.clean (runs.clean told);
     };
     fits = fits-of g s q after state2;
+    takes = takes-given free after g0 g2 (gives-of takes.given free after takes.gives) generation-stays;
     files = λ k rec k-is file.
         let far = file-other k rec k-is file in
         record { is_node = take-node shape bounds device n at.name p q free after state at.is_node.below takes k rec far k-is; graph = others k far };

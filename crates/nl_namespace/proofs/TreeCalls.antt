@@ -189,10 +189,10 @@ module _ (shape : Shape) (pages : VirtualMap) (page_of_stamp : ℕ → Option Pa
 
     made : (answer : Change) → MakesNode free g new path node answer → IsStepHere new call answer
     made (change.Changed lost) m =
-        let p = m.3 in
+        let p = m.2.2 in
         let c = count p.place.parent p.n p.place.leads in
         done shape b new tree (with_new tree path node) call lost (before ∙ m.0) is reply
-        (add-fits shape tree path p.place.parent p.name node (can-add m.0 p.n p.name p.place) fits (let h = p.spare.few in omega (arith, c, h)) (some-nodes shape pages page_of_stamp free tree holds p.m p.spare.least)
+        (add-fits shape tree path p.place.parent p.name node (can-add m.0 p.n p.name p.place) fits (let h = p.spare.few in omega (arith, c, h)) (some-nodes shape pages page_of_stamp free tree holds m.2.0 p.spare.least)
         (λ e. some-meta shape pages page_of_stamp free tree holds (p.spare.address (ap (λ (k : ℕ). k % 64) (sym c) ∙ e))))
         (makes_in_tree b free g new tree path node (change.Changed lost) stands m).1
     made (change.No r) (inl e) = refused shape b new tree call r (before ∙ e)

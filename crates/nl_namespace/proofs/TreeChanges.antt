@@ -86,10 +86,10 @@ module _ (bytes_of : ℕ → List ℕ) (graph : Graph) (tree : Tree) (stands : G
 
 pub makes_in_tree : MakesInTree
 makes_in_tree bytes_of free old new tree path node (change.Changed lost) stands m =
-    let made = m.2 in (
+    let made = m.2.1 in (
       making-same bytes_of old tree stands path ∙ m.0,
       subst (λ (z : List (List ℕ)). Represents bytes_of new (with_new tree z node)) (sym made.place.split)
-          (added_entry bytes_of bytes_of old new tree made.n made.m made.place.parent made.name node stands.once (made.adds bytes_of) made.place.leads stands.represents),
+          (added_entry bytes_of bytes_of old new tree made.n m.2.0 made.place.parent made.name node stands.once (made.adds bytes_of) made.place.leads stands.represents),
     )
 makes_in_tree bytes_of free old new tree path node (change.No refusal) stands (inl e) = inl (making-same bytes_of old tree stands path ∙ e)
 makes_in_tree bytes_of free old new tree path node (change.No refusal) stands (inr m) = inr (making-same bytes_of old tree stands path ∙ m.0, m.1)

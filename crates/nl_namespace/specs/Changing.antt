@@ -15,6 +15,7 @@ use Rattle.nl_meta.specs.PointerLists.{tagged_in}
 use Rattle.nl_meta.specs.Running.{CleanIsStored}
 use Rattle.nl_meta.specs.Steps.{ChangesRunningPages}
 use Rattle.nl_meta_running.specs.Running.{IsNeeded, IsNodeOf, PreservesRunning, running_on, stored_on}
+use Rattle.nl_namespace.specs.Taking.{TakesLeast}
 use Rattle.nl_namespace.specs.declared.answer.Change.{Change}
 use Rattle.nl_namespace.specs.declared.answer.Change.TheVariants as change
 
@@ -46,22 +47,24 @@ pub record FileStays {D : Type 0} (g : Ghosts D) (s : D) (p : Pages) (t : D) (q 
   pub graph : graph_of (g.shape t) (running_on g t q) n ≡ graph_of (g.shape s) (running_on g s p) n
 
 -- Names changed: at most eight pages are dirty that were not, besides address 0. The device was only read, no page was lost, the frozen
--- pages stay, and so does each file, whether it lost its name or not.
-pub record Changes {D : Type 0} (g : Ghosts D) (s : D) (p : Pages) (t : D) (q : Pages) (free : Spaces) (gone : Option ℕ) : Type 0 where
+-- pages stay, and so does each file, whether it lost its name or not. What is free is the second, and was the first.
+pub record Changes {D : Type 0} (g : Ghosts D) (s : D) (p : Pages) (free : Spaces) (t : D) (q : Pages) (after : Spaces)
+    (gone : Option ℕ) : Type 0 where
   pub reads : OnlyReads g s t
   pub frozen : q.frozen ≡ p.frozen
   pub pages : ChangesRunningPages p q
   pub few : length (besides_0 q.dirty) ≤ length (besides_0 p.dirty) + 8
   pub runs : RunningIsRightBut g t q gone
   -- the node that lost its name still counts as used
-  pub fits : FreeFits g t q free
+  pub fits : FreeFits g t q after
+  pub takes : TakesLeast free after (graph_of (g.shape s) (running_on g s p)) (graph_of (g.shape t) (running_on g t q))
   pub files : (n : ℕ) (rec : InodeRec) → IsNodeOf g s p n rec → rec.kind ≡ File → FileStays g s p t q n rec
   -- the pointers of all files, in their order, are what they were
   pub pointers : tagged_in (g.shape t) (running_on g t q) ≡ tagged_in (g.shape s) (running_on g s p)
 
 -- what a call leaves: all as it was, unless it was done
 abbrev pub ChangeLeaves : {D : Type 0} → Ghosts D → D → Pages → Spaces → D → Pages → Spaces → Change → Type 0
-ChangeLeaves g s p free t q after (change.Changed gone) = Changes g s p t q after gone
+ChangeLeaves g s p free t q after (change.Changed gone) = Changes g s p free t q after gone
 ChangeLeaves g s p free t q after (change.No refusal) = PreservesRunning g s p t q × (after ≡ free)
 ChangeLeaves g s p free t q after change.Fault = PreservesRunning g s p t q × (after ≡ free)
 ChangeLeaves g s p free t q after (change.Lost w f) = PreservesRunning g s p t q × (after ≡ free)

@@ -6,7 +6,7 @@ use Rattle.nl_meta.specs.Nodes.{address_of_place, entry_named, inode_at}
 use Rattle.nl_meta.specs.Pages.{Pages, page_of}
 use Rattle.nl_dir.specs.Changes.{InsertsEntry, RemovesDirectoryEntry}
 use Rattle.nl_dir.specs.Directory.{FitsFresh, HasRoomForDirty, IsDirectory, longer, shorter}
-use Rattle.nl_inode.specs.Nodes.{AddressBecomes, PutsNode, Spaces, is_free_address, page_of_node}
+use Rattle.nl_inode.specs.Nodes.{AddressBecomes, IsLeastAddress, PutsNode, Spaces, is_free_address, page_of_node}
 
 -- Node n is a directory in memory, with this record, and so many pages may become dirty.
 pub record HasDirectory (n : ℕ) (rec : InodeRec) (room : ℕ) (p : Pages) : Type 0 where
@@ -29,9 +29,10 @@ pub record FitsBehind (n : ℕ) (entry : EntryRec) (p : Pages) (free : Spaces) :
   pub address : rec.size % 64 ≡ 0 → (a : ℕ) × (is_free_address free a ≡ true)
   pub new : FreeAreNewToDirectory rec p free
 
+-- The least free address is taken, or none.
 abbrev pub TakesAddress : Option ℕ → Spaces → Spaces → Type 0
 TakesAddress None s t = t ≡ s
-TakesAddress (Some a) s t = (is_free_address s a ≡ true) × AddressBecomes a false s t
+TakesAddress (Some a) s t = IsLeastAddress a s × AddressBecomes a false s t
 
 abbrev pub ReturnsAddress : Option ℕ → Spaces → Spaces → Type 0
 ReturnsAddress None s t = t ≡ s

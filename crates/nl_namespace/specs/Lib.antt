@@ -17,3 +17,5 @@ pub mod RoomLaws
 pub mod Sorting
 pub mod Standing
 pub mod Stepping
+pub mod Taking
+pub mod TakingExamples

@@ -1,5 +1,5 @@
 -- A free node under a new name.
-use Rattle.std.specs.Prelude.{◌≡◌, ◌≢◌, ℕ, ◌+◌, ◌%◌, ◌^◌, ◌<◌, false, List, length, IsSome, None}
+use Rattle.std.specs.Prelude.{◌≡◌, ◌≢◌, ℕ, ◌+◌, ◌%◌, ◌^◌, ◌<◌, false, List, length, IsSome, None, Some}
 use Rattle.nl_field.specs.FileContent.{empty_file}
 use Rattle.nl_field.specs.declared.entry.EntryRec.{EntryRec}
 use Rattle.nl_field.specs.declared.inode.InodeRec.{InodeRec}
@@ -32,15 +32,16 @@ pub record FitsNew (n m : ℕ) (name : List ℕ) (p : Pages) (free : Spaces) : T
   pub address : rec.size % 64 ≡ 0 → HasFreeAddress free
   pub new : FreeAreNewToDirectory rec p free
 
--- Node m, which was free, has an empty record of its next generation, and the name in directory n.
+-- Node m, which was free, has an empty record of the generation after its last one, and the name in directory n.
 pub record MakesIn (n m : ℕ) (kind : Kind) (name : List ℕ) (old new : Pages) (s t : Spaces) : Type 0 where
-  pub generation : ℕ
+  pub was : InodeRec
+  pub had : inode_at (page_of old) m ≡ Some was
   pub between : Pages
   pub free : Spaces
-  pub node : PutsNode m (taken_as kind generation) old between
+  pub node : PutsNode m (taken_as kind was.generation) old between
   pub taken : NodeBecomes m false s free
   pub entry : EntryRec
-  pub is_entry : (entry.ino ≡ m) × (entry.generation ≡ (generation + 1) % 2 ^ 32) × (entry.name ≡ name)
+  pub is_entry : (entry.ino ≡ m) × (entry.generation ≡ (was.generation + 1) % 2 ^ 32) × (entry.name ≡ name)
   pub puts : PutsIn n entry between new free t
 
 -- The node is the least free one, and a directory of so many entries has room for it.

@@ -28,10 +28,9 @@ pub record NameIn (graph : Graph) (path : List (List ℕ)) (n : ℕ) (name : Lis
 
 -- ---- a new name
 
--- The path names a node that had no name, and is this node of the tree, whatever bytes the pages of files have.
-pub record MakesName (old new : Graph) (path : List (List ℕ)) (node : Node) : Type 0 where
+-- The path names node m, which had no name, and is this node of the tree, whatever bytes the pages of files have.
+pub record MakesName (old new : Graph) (path : List (List ℕ)) (m : ℕ) (node : Node) : Type 0 where
   pub n : ℕ
-  pub m : ℕ
   pub name : List ℕ
   pub place : NameIn old path n name
   pub adds : (bytes_of : ℕ → List ℕ) → AddsEntry bytes_of bytes_of old new n m name node
@@ -58,18 +57,17 @@ pub record LacksRoom (free : Spaces) (graph : Graph) (path : List (List ℕ)) (r
   pub is_space : refusal ≡ Enospc space
   pub full : IsFull free (length (entries_in (graph n).body)) space
 
--- The directory of the last name has room for a new node under it.
-pub record HasRoomForName (free : Spaces) (graph : Graph) (path : List (List ℕ)) : Type 0 where
+-- Node m has the least free number, and the directory of the last name has room for it under that name.
+pub record HasRoomForName (free : Spaces) (graph : Graph) (path : List (List ℕ)) (m : ℕ) : Type 0 where
   pub n : ℕ
   pub name : List ℕ
   pub place : NameIn graph path n name
-  pub m : ℕ
   pub spare : HasRoomForNode free (length (entries_in (graph n).body)) m
 
 -- how a call answers that makes a node under a path
 abbrev pub MakesNode : Spaces → Graph → Graph → List (List ℕ) → Node → Change → Type 0
 MakesNode free old new path node (change.Changed gone) =
-    (refusal_of_name old path ≡ None) × (gone ≡ None) × MakesName old new path node × HasRoomForName free old path
+    (refusal_of_name old path ≡ None) × (gone ≡ None) × ((m : ℕ) × MakesName old new path m node × HasRoomForName free old path m)
 MakesNode free old new path node (change.No refusal) =
     (refusal_of_name old path ≡ Some refusal) ⊎ ((refusal_of_name old path ≡ None) × LacksRoom free old path refusal)
 MakesNode free old new path node change.Fault = ⊤

@@ -18,7 +18,8 @@ use nl_meta::Meta;
 use nl_tree::Call;
 
 /// Does a call that changes names: mkdir, rmdir, create, unlink or rename. It tells the node that lost its name, whose record and pages
-/// stay as they are, and whose number counts as used. A refusal, a read that failed and a page that is lost leave all as it was.
+/// stay as they are, and whose number counts as used. A new node has the least free number and the generation after the last one of that
+/// number, a new page the least free address. A refusal, a read that failed and a page that is lost leave all as it was.
 pub fn change<D: VirtualPages>(
     device: &mut D,
     meta: &mut Meta,

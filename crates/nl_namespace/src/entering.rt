@@ -10,7 +10,7 @@ use nl_field::{EntryRec, InodeRec};
 use nl_inode::Nodes;
 use nl_meta::Meta;
 
-/// Puts an entry behind those of a directory. Where its last page is full it takes an address of the pool for a new one.
+/// Puts an entry behind those of a directory. Where its last page is full it takes the least free address of the pool for a new one.
 pub(crate) fn put_in(meta: &mut Meta, nodes: &mut Nodes, dir: u32, entry: &EntryRec)
     requires { FitsBehind dir entry.now meta.old nodes.old }
     ensures { PutsIn dir entry.now meta.old meta.new nodes.old nodes.new }

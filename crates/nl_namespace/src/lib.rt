@@ -16,6 +16,7 @@ mod place;
 mod removing;
 mod renaming;
 mod same_paths;
+pub mod taking_rows;
 mod walk;
 
 pub use answer::{Change, Listing, Look};

@@ -24,7 +24,9 @@ use nl_meta::Meta;
 use nl_meta_running::{Stop, hold};
 use nl_tree::{Path, Refusal, is_long};
 
-/// Makes an empty directory, or an empty file, under a path. A refusal, a read that failed and a page that is lost leave all as it was.
+/// Makes an empty directory, or an empty file, under a path. The node has the least free number, and is of the generation after that of
+/// the last node that had it; a new page of the directory has the least free address. A refusal, a read that failed and a page that is lost
+/// leave all as it was.
 pub fn make<D: VirtualPages>(
     device: &mut D,
     meta: &mut Meta,

@@ -9,7 +9,7 @@ use nl_field::{EntryRec, Kind, Name};
 use nl_inode::{Nodes, taken};
 use nl_meta::Meta;
 
-/// A free node is used from now on, with an empty record of its next generation, under a name of a directory.
+/// A free node is used from now on, with an empty record of the generation after its last one, under a name of a directory.
 pub(crate) fn name_node(
     meta: &mut Meta,
     nodes: &mut Nodes,

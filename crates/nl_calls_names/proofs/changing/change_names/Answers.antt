@@ -51,6 +51,7 @@ returns-in-Ok g c =
       steps = n.steps;
       flight = n.flight;
       answer = n.answers;
+      takes = n.takes;
       reads = n.reads;
     }
 
@@ -62,4 +63,4 @@ returns-in-Err g c =
     let e = c.in-Err.ensures in
     let r = named_early G c.args.call.now v c.requires.core c.device_stands.ensures.volume w e.stopped e.formed c.device_stands-in-Err.ensures.pages c.in-Err.stop e.reads in
     let n = subst (λ (z : Naming). Named G c.args.call.now v w z) (sym c.stopped.ensures) r in
-    record { core = n.core; steps = n.steps; flight = n.flight; answer = n.answers; reads = n.reads }
+    record { core = n.core; steps = n.steps; flight = n.flight; answer = n.answers; takes = n.takes; reads = n.reads }

@@ -29,9 +29,12 @@ pub returns-in-Ok-hold-clause-answer : goal.returns-in-Ok-hold-clause-answer
 returns-in-Ok-hold-clause-answer g c = (
   c.requires.unrefused,
   refl,
-  made-name g.D.Counts c.args.device.now c.args.meta.now c.hold.new.device c.hold.new.meta (g.met.D.VirtualPages.numbers c.args.device.now c.requires.formed) (g.met.D.VirtualPages.numbers c.hold.new.device c.in-Ok-hold.ensures.formed) c.requires.runs c.in-Ok-hold.ensures.kept c.args.nodes.now c.requires.free c.args.path.now c.args.place.now c.requires.place c.requires.held c.requires.absent c.args.name.now c.requires.last c.in-Ok.ino c.in-Ok.ensures.spare c.in-Ok-hold.ensures.there.there c.args.kind c.requires.used c.name_node.new.meta c.name_node.new.nodes (subst (λ (x : List ℕ). MakesIn c.args.place.now.dir c.in-Ok.ino c.args.kind x c.hold.new.meta c.name_node.new.meta c.args.nodes.now c.name_node.new.nodes) c.name_of.ensures
-      (subst (λ (s : Spaces). MakesIn c.args.place.now.dir c.in-Ok.ino c.args.kind c.name_of.result c.hold.new.meta c.name_node.new.meta s c.name_node.new.nodes) c.in-Ok.ensures.same c.name_node.ensures)),
-  has-place g.D.Counts c.args.device.now c.args.meta.now (g.met.D.VirtualPages.numbers c.args.device.now c.requires.formed) c.requires.runs c.args.path.now c.args.place.now c.requires.place c.args.nodes.now c.in-Ok.ino c.in-Ok.ensures.spare,
+  (
+    c.in-Ok.ino,
+    made-name g.D.Counts c.args.device.now c.args.meta.now c.hold.new.device c.hold.new.meta (g.met.D.VirtualPages.numbers c.args.device.now c.requires.formed) (g.met.D.VirtualPages.numbers c.hold.new.device c.in-Ok-hold.ensures.formed) c.requires.runs c.in-Ok-hold.ensures.kept c.args.nodes.now c.requires.free c.args.path.now c.args.place.now c.requires.place c.requires.held c.requires.absent c.args.name.now c.requires.last c.in-Ok.ino c.in-Ok.ensures.spare c.in-Ok-hold.ensures.there.there c.args.kind c.requires.used c.name_node.new.meta c.name_node.new.nodes (subst (λ (x : List ℕ). MakesIn c.args.place.now.dir c.in-Ok.ino c.args.kind x c.hold.new.meta c.name_node.new.meta c.args.nodes.now c.name_node.new.nodes) c.name_of.ensures
+        (subst (λ (s : Spaces). MakesIn c.args.place.now.dir c.in-Ok.ino c.args.kind c.name_of.result c.hold.new.meta c.name_node.new.meta s c.name_node.new.nodes) c.in-Ok.ensures.same c.name_node.ensures)),
+    has-place g.D.Counts c.args.device.now c.args.meta.now (g.met.D.VirtualPages.numbers c.args.device.now c.requires.formed) c.requires.runs c.args.path.now c.args.place.now c.requires.place c.args.nodes.now c.in-Ok.ino c.in-Ok.ensures.spare,
+  ),
 )
 
 pub returns-in-Ok-hold-clause-left : goal.returns-in-Ok-hold-clause-left

@@ -7,7 +7,7 @@ use Rattle.nl_namespace.proofs.NodeSteps.{taken-spelled}
 use Rattle.nl_namespace.proofs.naming.name_node.Goals as goal
 
 pub put-requires-clause-spelled : goal.put-requires-clause-spelled
-put-requires-clause-spelled c = subst (λ (r : InodeRec). is_inode r ≡ true) (sym c.taken-rec.ensures) (taken-spelled c.args.kind c.get.result.generation c.requires.used)
+put-requires-clause-spelled c = subst (λ (r : InodeRec). is_inode r ≡ true) (sym c.taken-rec.ensures) (taken-spelled c.args.kind _ c.requires.used)
 
 pub put_in-requires : goal.put_in-requires
 put_in-requires c =

@@ -1,0 +1,6 @@
+use Rattle.std.proofs.Common.{refl, arith}
+use Rattle.nl_namespace.proofs.Taking.{true-false}
+use Rattle.nl_namespace.proofs.taking_rows.takes_another_number.Goals as goal
+
+pub returns : goal.returns
+returns c f = true-false ((f.number 2 (record { was_free = refl; is_used = refl })).least 1 (omega arith))
