@@ -20,8 +20,11 @@ use Rattle.nl_core.specs.Goes.{PreservesVolume}
 use Rattle.nl_core.specs.declared.state.Core.{Core}
 use Rattle.nl_core.proofs.Onward.{goes_then}
 use Rattle.nl_calls_steps.specs.Steps.{Steps}
-use Rattle.nl_calls_steps.specs.Calls.{OtherLinesStay}
-use Rattle.nl_calls.specs.Answering.{AnswersCall, AnswersOn, RunsReclaimPass, MakesEffect, HasEffectOf, Syncs, counts_of, is_synced}
+use Rattle.nl_calls_steps.specs.Calls.{OtherLinesStay, counts_of}
+use Rattle.nl_namespace.proofs.Taking.{takes-none}
+use Rattle.nl_calls_names.specs.Gathering.{graph_on}
+use Rattle.nl_calls_names.specs.Naming.{TakesLeastOn}
+use Rattle.nl_calls.specs.Answering.{AnswersCall, AnswersOn, RunsReclaimPass, MakesEffect, HasEffectOf, Syncs, is_synced}
 use Rattle.nl_calls.proofs.Ended.{ends_then}
 
 -- ---- what a call does
@@ -36,6 +39,9 @@ steps_none g v = record {
   others = refl;
 }
 
+pub takes_nothing : {D : Type 0} (g : Ghosts D) (v : Core D) → TakesLeastOn g v v
+takes_nothing g v = takes-none v.nodes (graph_on g v) (graph_on g v) (λ k. refl)
+
 module _ {D : Type 0} (g : Ghosts D) (call : Call) (u v : Core D) where
   -- a call that leaves the tree
   pub leaves_effect : (fault : Option FaultReply) → ((shape : Shape) (tree : Tree) → (step_marked shape tree (call, fault)).tree ≡ tree) → (n : ℕ) → IsCore g v → PreservesVolume g n u v → MakesEffect g call fault u v
@@ -46,6 +52,7 @@ module _ {D : Type 0} (g : Ghosts D) (call : Call) (u v : Core D) where
     goes = goes;
     steps = steps_none g v;
     makes = λ tells page_of_stamp tree runs. subst (RepresentsTree (g.shape v.device) (running_of g v) page_of_stamp) (sym (same (g.shape v.device) tree)) runs.runs;
+    takes = λ is. takes_nothing g v;
   }
 
   -- one that met a fault
@@ -88,6 +95,7 @@ module _ {D : Type 0} (g : Ghosts D) (call : Call) (n : ℕ) (u v w : Core D) (g
     goes = goes_then g u v x.between n x.most goes x.goes;
     steps = x.steps;
     makes = x.makes;
+    takes = x.takes;
   }
 
   syncs_after : (upto moment : ℕ) → Syncs g upto moment v w → Syncs g upto moment u w

@@ -5,3 +5,4 @@ pub mod Leaving
 pub mod OneTree
 pub mod Steps
 pub mod Tried
+pub mod Uncommitted

@@ -26,13 +26,13 @@ use Rattle.nl_core.specs.declared.state.Core.{Core}
 use Rattle.nl_core.proofs.Onward.{goes_none}
 use Rattle.nl_calls_steps.specs.Steps.{Steps}
 use Rattle.nl_calls_files.proofs.Directories.{room}
-use Rattle.nl_calls_steps.specs.Calls.{MakesTree, RepresentsSomeTree, TakesWithin}
+use Rattle.nl_calls_steps.specs.Calls.{MakesTree, RepresentsSomeTree, TakesWithin, counts_of}
 use Rattle.nl_calls_read.specs.Looking.{IsPlainReply, OnlyLooks}
-use Rattle.nl_calls_names.specs.Naming.{AnswersAs}
+use Rattle.nl_calls_names.specs.Naming.{AnswersAs, TakesLeastOn}
 use Rattle.nl_calls_names.specs.declared.answer.Naming.TheVariants as naming
 use Rattle.nl_calls_bytes.specs.Ranges.{IsWriting}
-use Rattle.nl_calls.specs.Answering.{AnswersCall, AnswersOn, EndsLine, MakesEffect, counts_of, is_sync_call, is_synced, pages_of_files}
-use Rattle.nl_calls.proofs.Answered.{and_false, failed_cause, fault_effect, leaves_effect, plain_effect, steps_none}
+use Rattle.nl_calls.specs.Answering.{AnswersCall, AnswersOn, EndsLine, MakesEffect, is_sync_call, is_synced, pages_of_files}
+use Rattle.nl_calls.proofs.Answered.{and_false, failed_cause, fault_effect, leaves_effect, plain_effect, steps_none, takes_nothing}
 use Rattle.nl_calls.proofs.Counted.{goes_counted}
 use Rattle.nl_calls.proofs.OneTree.{one_tree}
 use Rattle.nl_calls.proofs.Leaving.{leaves_tree, looking_leaves}
@@ -117,7 +117,7 @@ of_names (ListCall path) is = absurd is
 of_names Sync is = absurd is
 of_names Clean is = absurd is
 
-module _ {D : Type 0} (g : Ghosts D) (worker : ℕ) (call : Call) (u v : Core D) (files : ℕ) (is : IsOfNames call) (before : IsCore g u) (changes : Steps g u v) (are : files ≡ pages_of_files g v) (line : EndsLine worker u.flight v.flight) where
+module _ {D : Type 0} (g : Ghosts D) (worker : ℕ) (call : Call) (u v : Core D) (files : ℕ) (is : IsOfNames call) (before : IsCore g u) (changes : Steps g u v) (least : TakesLeastOn g u v) (are : files ≡ pages_of_files g v) (line : EndsLine worker u.flight v.flight) where
   names_effect : (fault : Option FaultReply) → ((page_of_stamp : ℕ → Option PageOfStamp) (tree : Tree) → RepresentsTree (g.shape u.device) (running_of g u) page_of_stamp tree
       → RepresentsTree (g.shape v.device) (running_of g v) page_of_stamp (step_marked (g.shape u.device) tree (call, fault)).tree) → MakesEffect g call fault u v
   names_effect fault makes = record {
@@ -127,6 +127,7 @@ module _ {D : Type 0} (g : Ghosts D) (worker : ℕ) (call : Call) (u v : Core D)
     goes = goes_none g u before;
     steps = changes;
     makes = λ tells page_of_stamp tree runs. makes page_of_stamp tree runs.runs;
+    takes = λ is. least;
   }
 
   pub named_done : g.shape v.device ≡ g.shape u.device → AnswersAs g call u v naming.Done → AnswersCall g worker call u v Done [] files
@@ -202,7 +203,7 @@ module _ {D : Type 0} (g : Ghosts D) (worker : ℕ) (call : Call) (u v : Core D)
   pub written_no : (refusal : Refusal) (n : ℕ) → IsCore g v → PreservesVolume g n u v → RepresentsSomeTree g u
       → (g.tells → (page_of_stamp : ℕ → Option PageOfStamp) (tree : Tree) → CoreRepresentsTree g u page_of_stamp tree → step (g.shape u.device) tree call ≡ record { reply = No refusal; bytes = []; tree = tree }) → AnswersCall g worker call u v (No refusal) [] files
   written_no refusal n core goes some is = written_done (No refusal) [] refl refl
-      (record { between = v; core = core; most = n; goes = goes; steps = steps_none g v; makes = stays })
+      (record { between = v; core = core; most = n; goes = goes; steps = steps_none g v; makes = stays; takes = λ is. takes_nothing g v })
       (λ tells page_of_stamp tree runs. refused_answers (step (g.shape u.device) tree call) tree refusal (is tells page_of_stamp tree runs))
     where
       stays : MakesTree g v v (call, None)
@@ -214,14 +215,14 @@ module _ {D : Type 0} (g : Ghosts D) (worker : ℕ) (call : Call) (u v : Core D)
           ap (λ (h : Shape). (step h tree call).tree) goes.same_shape ∙ (ap (λ (t : Tree). (step (g.shape u.device) t call).tree) (sym one) ∙ (ap (λ (x : Outcome). x.tree) (is tells k.0 k.1 k.2) ∙ one)) in
           subst (RepresentsTree (g.shape v.device) (running_of g v) page_of_stamp) (sym same) runs.runs
 
-pub writing_is : (call : Call) → IsWriting call → (is_sync_call call ≡ false) × (call ≡ Clean → ⊥)
+pub writing_is : (call : Call) → IsWriting call → (is_sync_call call ≡ false) × (call ≡ Clean → ⊥) × (IsOfNames call → ⊥)
 writing_is (Mkdir path) is = absurd is
 writing_is (Rmdir path) is = absurd is
 writing_is (Create path) is = absurd is
 writing_is (Unlink path) is = absurd is
 writing_is (Rename from to) is = absurd is
-writing_is (Write path from bytes) is = (refl, λ e. cc e)
-writing_is (Fill path from len byte) is = (refl, λ e. cc e)
+writing_is (Write path from bytes) is = (refl, (λ e. cc e), (λ names. names))
+writing_is (Fill path from len byte) is = (refl, (λ e. cc e), (λ names. names))
 writing_is (Read path from len) is = absurd is
 writing_is (Truncate path size) is = absurd is
 writing_is (Stat path) is = absurd is
@@ -230,8 +231,8 @@ writing_is Sync is = absurd is
 writing_is Clean is = absurd is
 
 -- done, as the call that writes tells it
-pub takes_effect : {D : Type 0} (g : Ghosts D) (most worker : ℕ) (call : Call) (u v : Core D) → TakesWithin g most worker call u v → MakesEffect g call None u v
-takes_effect g most worker call u v x = record { between = x.between; core = x.core; most = most; goes = x.goes; steps = x.steps; makes = x.makes }
+pub takes_effect : {D : Type 0} (g : Ghosts D) (most worker : ℕ) (call : Call) (u v : Core D) → (IsOfNames call → ⊥) → TakesWithin g most worker call u v → MakesEffect g call None u v
+takes_effect g most worker call u v other x = record { between = x.between; core = x.core; most = most; goes = x.goes; steps = x.steps; makes = x.makes; takes = λ is. absurd (other is) }
 
 -- a call that is neither a write nor a fill
 pub not_writing : (call : Call) → ((path : List (List ℕ)) (from : ℕ) (bytes : List ℕ) → call ≡ Write path from bytes → ⊥) → ((path : List (List ℕ)) (from len byte : ℕ) → call ≡ Fill path from len byte → ⊥) → IsWriting call → ⊥

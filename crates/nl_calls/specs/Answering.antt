@@ -1,6 +1,6 @@
 -- What a file call does to a core, and what it answers.
 use Rattle.std.specs.Prelude.{◌≡◌, ℕ, ◌^◌, ◌<◌, ◌&&◌, Bool, true, false, IsTrue, IfSome, List, length, is_none, Option}
-use Rattle.nl_tree.specs.Causes.{Counts, FaultWithin, fault_in, is_changing}
+use Rattle.nl_tree.specs.Causes.{FaultWithin, fault_in, is_changing}
 use Rattle.nl_tree.specs.Replay.{Answers, step_marked}
 use Rattle.nl_tree.specs.Tree.{Tree}
 use Rattle.nl_tree.specs.declared.call.Call.{Call}
@@ -13,6 +13,7 @@ use Rattle.nl_iface.specs.declared.counts.Counts.{Ghosts}
 use Rattle.nl_iface.specs.declared.moving_pages.MovingPages.{Ghosts as Moving}
 use Rattle.nl_meta.specs.Consistent.{PageOfStamp}
 use Rattle.nl_journal_commit.specs.Holding.{running_holders}
+use Rattle.nl_namespace.specs.Calls.{IsOfNames}
 use Rattle.nl_core.specs.Calls.{CommitsAll}
 use Rattle.nl_core.specs.Core.{IsCore}
 use Rattle.nl_core.specs.Goes.{PreservesVolume}
@@ -20,11 +21,8 @@ use Rattle.nl_core.specs.Rounds.{ReclaimPassIsDone}
 use Rattle.nl_core.specs.Trees.{CoreRepresentsTree}
 use Rattle.nl_core.specs.declared.state.Core.{Core}
 use Rattle.nl_calls_steps.specs.Steps.{Steps}
-use Rattle.nl_calls_steps.specs.Calls.{MakesTree, OtherLinesStay}
-
--- the clock and the counts of faults of the medium
-abbrev pub counts_of : {D : Type 0} → Ghosts D → D → Counts
-counts_of g s = record { clock = g.clock s; read_faults = g.read_faults s; write_faults = g.write_faults s }
+use Rattle.nl_calls_steps.specs.Calls.{MakesTree, OtherLinesStay, counts_of}
+use Rattle.nl_calls_names.specs.Naming.{TakesLeastOn}
 
 -- how many pages files have
 abbrev pub pages_of_files : {D : Type 0} → Ghosts D → Core D → ℕ
@@ -40,7 +38,7 @@ pub record EndsLine (worker : ℕ) (old new : List InFlight) : Type 0 where
 -- ---- what the call does
 
 -- The core goes on, and then pages of the metadata change in memory, so that it makes of its tree what the call makes of it, with this
--- fault, if it met one.
+-- fault, if it met one. A call that changes names takes the least of what is free then.
 pub record MakesEffect {D : Type 0} (g : Ghosts D) (call : Call) (fault : Option FaultReply) (old new : Core D) : Type 0 where
   pub between : Core D
   pub core : IsCore g between
@@ -48,6 +46,7 @@ pub record MakesEffect {D : Type 0} (g : Ghosts D) (call : Call) (fault : Option
   pub goes : PreservesVolume g most old between
   pub steps : Steps g between new
   pub makes : MakesTree g between new (call, fault)
+  pub takes : IsOfNames call → TakesLeastOn g between new
 
 -- The core goes on, and all calls so far are committed: so many, at this moment.
 pub record Syncs {D : Type 0} (g : Ghosts D) (upto moment : ℕ) (old new : Core D) : Type 0 where

@@ -1,6 +1,6 @@
 ghost use Rattle.std.specs.Prelude.{◌≡◌};
 ghost use Rattle.nl_tree.specs.Causes.{fault_sum};
-ghost use Rattle.nl_calls.specs.Answering.{counts_of};
+ghost use Rattle.nl_calls_steps.specs.Calls.{counts_of};
 ghost use Rattle.nl_tree.specs.declared.reply.Reply.TheVariants.{Fault as FaultAnswer};
 ghost use Rattle.nl_tree.specs.declared.reply.FaultReply.TheVariants.{Eio};
 

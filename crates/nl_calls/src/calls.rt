@@ -1,14 +1,17 @@
-ghost use Rattle.std.specs.Prelude.{◌≡◌, ◌<◌, ◌≤◌, [], ℕ, length};
+ghost use Rattle.std.specs.Prelude.{◌≡◌, ◌<◌, ◌≤◌, false, [], ℕ, length};
 ghost use Rattle.nl_core.specs.Core.{IsCore};
+ghost use Rattle.nl_core.specs.LastCommit.{KeepsCommit, LeavesMedium};
 ghost use Rattle.nl_core.specs.Programming.{HasLineOrNone};
 ghost use Rattle.nl_calls_steps.specs.Lines.{worker_pages};
 ghost use Rattle.nl_calls_steps.specs.Calls.{RepresentsSomeTree};
 ghost use Rattle.nl_flight.specs.Flight.{begun, of_worker};
 ghost use Rattle.nl_tree.specs.Calls.{IsBounded};
+ghost use Rattle.nl_tree.specs.Causes.{is_changing};
 ghost use Rattle.nl_tree.specs.declared.call.Call.TheVariants.{Clean};
 ghost use Rattle.nl_calls_write.specs.Calls.{AreStaged};
 ghost use Rattle.nl_calls_bytes.specs.Ranges.{IsWriting};
 ghost use Rattle.nl_calls.specs.Answering.{AnswersCall, RunsReclaimPass, MayTry, pages_of_files};
+ghost use Rattle.nl_calls.specs.Commits.{NeedsNoCommit};
 
 use crate::answer::Answer;
 use crate::cleaning::clean;
@@ -26,7 +29,10 @@ use nl_tree::{Call, Reply, ReplyBuf};
 /// Does a file call, and tells its reply, with the bytes that belong to it in the buffer, and how many pages files have then. A call that
 /// changes something comes only where the volume can be written to. Pages that were staged for a call that writes are those of its range
 /// that are whole. While the medium tells its contents, the reply is that of the step of the tree as which the core runs, or a fault with
-/// its cause, which leaves the tree. A call for cleaning that is done did a round of reclaiming. The worker has no line afterwards.
+/// its cause, which leaves the tree. A call that changes names takes the least free number for a new node, and the least free address for a
+/// new page. A call for cleaning that is done did a round of reclaiming. Nothing is committed but by a sync, by a call for cleaning, and
+/// where there is no room for the pages that the call makes dirty or programs. A call that only looks leaves the medium and the last commit
+/// as they are. The worker has no line afterwards.
 pub fn answer_call<D: MovingPages>(
     core: &mut Core<D>,
     worker: u8,
@@ -50,6 +56,8 @@ pub fn answer_call<D: MovingPages>(
     ensures core { IsCore D.Counts core.new }
     ensures answers { AnswersCall D.Counts worker call.now core.old core.new result.reply out.new result.files }
     ensures cleaned { call.now ≡ Clean → result.reply ≡ Reply.Done → RunsReclaimPass D.Counts D.MovingPages.own core.old core.new }
+    ensures commit { NeedsNoCommit D.Counts call.now core.old → KeepsCommit core.old core.new }
+    ensures leaves { is_changing call.now ≡ false → LeavesMedium D.Counts core.old core.new }
 {
     match call {
         Call::Write(..) | Call::Fill(..) => write(core, worker, line, call, files, page),
@@ -84,6 +92,8 @@ fn answer_other<D: MovingPages>(
     ensures core { IsCore D.Counts core.new }
     ensures answers { AnswersCall D.Counts worker call.now core.old core.new result.reply out.new result.files }
     ensures cleaned { call.now ≡ Clean → result.reply ≡ Reply.Done → RunsReclaimPass D.Counts D.MovingPages.own core.old core.new }
+    ensures commit { NeedsNoCommit D.Counts call.now core.old → KeepsCommit core.old core.new }
+    ensures leaves { is_changing call.now ≡ false → LeavesMedium D.Counts core.old core.new }
 {
     match call {
         Call::Read(..) | Call::Stat(_) | Call::List(_) => look(

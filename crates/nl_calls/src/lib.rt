@@ -6,6 +6,7 @@ mod calls;
 mod cleaning;
 mod looking;
 mod naming;
+pub mod rows;
 mod syncing;
 mod writing;
 

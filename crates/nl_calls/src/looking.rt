@@ -1,5 +1,6 @@
 ghost use Rattle.std.specs.Prelude.{◌≡◌, []};
 ghost use Rattle.nl_core.specs.Core.{IsCore};
+ghost use Rattle.nl_core.specs.LastCommit.{LeavesMedium};
 ghost use Rattle.nl_flight.specs.Flight.{begun, of_worker};
 ghost use Rattle.nl_calls_read.specs.Looking.{OnlyLooks};
 ghost use Rattle.nl_tree.specs.Calls.{IsBounded};
@@ -31,6 +32,7 @@ pub(crate) fn look<D: MovingPages>(
     requires nothing { out.old ≡ [] }
     ensures core { IsCore D.Counts core.new }
     ensures answers { AnswersCall D.Counts worker call.now core.old core.new result.reply out.new result.files }
+    ensures leaves { LeavesMedium D.Counts core.old core.new }
 {
     pages_stay_as_many();
     device_stands(&core.device);

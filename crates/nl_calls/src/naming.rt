@@ -1,9 +1,11 @@
 ghost use Rattle.std.specs.Prelude.{◌≡◌, ◌+◌, ◌-◌, ◌^◌, ◌≤◌, []};
 ghost use Rattle.nl_core.specs.Core.{IsCore};
+ghost use Rattle.nl_core.specs.LastCommit.{KeepsCommit};
 ghost use Rattle.nl_flight.specs.Flight.{begun, of_worker};
 ghost use Rattle.nl_dir.specs.Directory.{HasRoomForDirty};
 ghost use Rattle.nl_namespace.specs.Calls.{PathsHaveNames, IsOfNames};
 ghost use Rattle.nl_calls.specs.Answering.{AnswersCall, pages_of_files};
+ghost use Rattle.nl_calls.specs.Commits.{NeedsNoCommit};
 
 use crate::answer::{Answer, failed};
 use nl_calls_names::{Naming, change_names};
@@ -33,6 +35,7 @@ pub(crate) fn name<D: MovingPages>(
     requires files { files ≡ pages_of_files D.Counts core.old }
     ensures core { IsCore D.Counts core.new }
     ensures answers { AnswersCall D.Counts worker call.now core.old core.new result.reply [] result.files }
+    ensures commit { NeedsNoCommit D.Counts call.now core.old → KeepsCommit core.old core.new }
 {
     if core.meta.dirty() <= FEW {
         return name_now(core, worker, call, files);
@@ -64,6 +67,7 @@ fn name_now<D: MovingPages>(core: &mut Core<D>, worker: u8, call: &Call, files: 
     requires files { files ≡ pages_of_files D.Counts core.old }
     ensures core { IsCore D.Counts core.new }
     ensures answers { AnswersCall D.Counts worker call.now core.old core.new result.reply [] result.files }
+    ensures commit { KeepsCommit core.old core.new }
 {
     device_stands(&core.device);
     let before = core.freeing.len();

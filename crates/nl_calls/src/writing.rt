@@ -1,13 +1,15 @@
 ghost use Rattle.std.specs.Prelude.{◌≡◌, ◌^◌, ◌<◌, []};
 ghost use Rattle.nl_core.specs.Core.{IsCore};
 ghost use Rattle.nl_core.specs.Goes.{PreservesVolume};
+ghost use Rattle.nl_core.specs.LastCommit.{HasRoomAtOnce, KeepsCommit};
 ghost use Rattle.nl_tree.specs.Calls.{IsBounded};
 ghost use Rattle.nl_tree.specs.Causes.{fault_sum};
 ghost use Rattle.nl_tree.specs.declared.call.Call.TheVariants.{Truncate};
-ghost use Rattle.nl_calls_steps.specs.Calls.{RepresentsSomeTree};
+ghost use Rattle.nl_calls_steps.specs.Calls.{RepresentsSomeTree, counts_of};
 ghost use Rattle.nl_calls_write.specs.Calls.{CanWriteLine};
 ghost use Rattle.nl_calls_bytes.specs.Ranges.{IsWriting};
-ghost use Rattle.nl_calls.specs.Answering.{AnswersCall, EndsLine, counts_of, pages_of_files};
+ghost use Rattle.nl_calls.specs.Answering.{AnswersCall, EndsLine, pages_of_files};
+ghost use Rattle.nl_calls.specs.Commits.{NeedsNoCommit};
 
 use crate::answer::{Answer, failed};
 use nl_calls_bytes::length_of;
@@ -37,6 +39,7 @@ pub(crate) fn write<D: MovingPages>(
     requires bounded { IsBounded call.now }
     ensures core { IsCore D.Counts core.new }
     ensures answers { AnswersCall D.Counts worker call.now core.old core.new result.reply [] result.files }
+    ensures commit { NeedsNoCommit D.Counts call.now core.old → KeepsCommit core.old core.new }
 {
     pages_stay_as_many();
     let written = write_call(core, worker, line, call, files, page);
@@ -77,6 +80,7 @@ pub(crate) fn truncate<D: MovingPages>(
     requires files { files ≡ pages_of_files D.Counts core.old }
     ensures core { IsCore D.Counts core.new }
     ensures answers { AnswersCall D.Counts worker (Truncate path.now size) core.old core.new result.reply [] result.files }
+    ensures commit { HasRoomAtOnce D.Counts 4 1 core.old → KeepsCommit core.old core.new }
 {
     pages_stay_as_many();
     let written = truncate_call(core, worker, line, path, size, files, page);
@@ -107,6 +111,7 @@ fn undone<D: MovingPages>(core: &mut Core<D>, worker: u8, reply: Reply, files: u
     ensures line { EndsLine worker core.old.flight core.new.flight }
     ensures faults { fault_sum (counts_of D.Counts core.new.device) ≡ fault_sum (counts_of D.Counts core.old.device) }
     ensures answer { (result.reply ≡ reply) × (result.files ≡ files) }
+    ensures commit { KeepsCommit core.old core.new }
 {
     core.drop_line(worker);
     Answer { reply, files }

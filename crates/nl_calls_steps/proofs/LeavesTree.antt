@@ -5,6 +5,7 @@ use Rattle.nl_tree.specs.Tree.{Tree}
 use Rattle.nl_core_callbacks.specs.Handled.{nameless_body}
 use Rattle.nl_iface.specs.Calls.{StoresPages}
 use Rattle.nl_iface.specs.Device.{IsVolumeShape}
+use Rattle.nl_iface.specs.Names.{Names}
 use Rattle.nl_iface.specs.declared.counts.Counts.{Ghosts}
 use Rattle.nl_journal.specs.Progress.{begun}
 use Rattle.nl_meta.specs.Consistent.{PageOfStamp}
@@ -49,6 +50,7 @@ module _ {D : Type 0} (g : Ghosts D) (v w : Core D) (core : IsCore g v) (volume 
           some = λ none later. absurd (later (same_stopped ∙ none));
         };
         stamps = record { never_falls = omega (arith, stamp); at_most = omega (arith, stamp); paid = λ low less. omega (arith, stamp, clock, writes) };
+        posted = let same = ap (λ (n : Names). n.posted) step.reads.names in omega (arith, same);
         runs = λ tells page_of_stamp tree at. with_none g w page_of_stamp tree (steps_run g v w page_of_stamp tree tree tells step at (alike page_of_stamp tree at.runs));
         trees = λ told page_of_stamp t at. record {
           pages = page_of_stamp;

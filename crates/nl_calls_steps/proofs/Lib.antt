@@ -3,6 +3,7 @@ pub mod FileCut
 pub mod FileInstalled
 pub mod FilePages
 pub mod Going
+pub mod LastCommitOn
 pub mod Leading
 pub mod LeavesTree
 pub mod LineEnds

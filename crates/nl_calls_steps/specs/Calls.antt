@@ -1,5 +1,6 @@
 -- What a call on a file does to a core.
 use Rattle.std.specs.Prelude.{◌≡◌, ◌≢◌, ℕ, ◌^◌, ⊤, List, length, Option, Some, None}
+use Rattle.nl_tree.specs.Causes.{Counts}
 use Rattle.nl_tree.specs.Replay.{step_marked}
 use Rattle.nl_tree.specs.Tree.{Tree}
 use Rattle.nl_tree.specs.declared.call.Call.{Call}
@@ -19,6 +20,10 @@ use Rattle.nl_core.specs.declared.state.Core.{Core}
 use Rattle.nl_calls_steps.specs.Steps.{Steps}
 use Rattle.nl_calls_steps.specs.declared.answer.Written.{Written}
 use Rattle.nl_calls_steps.specs.declared.answer.Written.TheVariants as written
+
+-- the clock and the counts of faults of the medium
+abbrev pub counts_of : {D : Type 0} → Ghosts D → D → Counts
+counts_of g s = record { clock = g.clock s; read_faults = g.read_faults s; write_faults = g.write_faults s }
 
 -- the core runs as some tree while the medium tells its contents
 abbrev pub RepresentsSomeTree : {D : Type 0} → Ghosts D → Core D → Type 0

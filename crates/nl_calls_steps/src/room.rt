@@ -13,7 +13,7 @@ use nl_meta_running::Stop;
 // How many pages may be dirty before a call makes up to four more so.
 const FEW: u32 = 59;
 
-/// Commits where fewer than four more pages may become dirty.
+/// Commits where fewer than four more pages may become dirty. Where four more may, all stays as it is.
 pub fn make_room<D: MovingPages>(core: &mut Core<D>) -> Result<(), Stop>
     requires core { IsCore D.Counts core.old }
     requires writes { core.old.stopped ≡ 0 }
@@ -22,6 +22,7 @@ pub fn make_room<D: MovingPages>(core: &mut Core<D>) -> Result<(), Stop>
     ensures goes { PreservesVolume D.Counts 512 core.old core.new }
     ensures flight { core.new.flight ≡ core.old.flight }
     ensures room { IfOk result (λ _. length (besides_0 core.new.meta.dirty) + 4 ≤ most) }
+    ensures kept { length core.old.meta.dirty + 4 ≤ most → core.new ≡ core.old }
     ensures early { EndsEarly D.Counts core.old core.new (stop_of result) }
 {
     if core.meta.dirty() <= FEW {

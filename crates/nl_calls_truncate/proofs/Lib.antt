@@ -7,3 +7,4 @@ pub mod CutPages
 pub mod CutPut
 pub mod CutReads
 pub mod CutStep
+pub mod Uncommitted

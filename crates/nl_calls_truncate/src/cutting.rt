@@ -7,8 +7,9 @@ ghost use Rattle.nl_indirect.specs.Ranges.{HasRange};
 ghost use Rattle.nl_meta.specs.Nodes.{pointer_at};
 ghost use Rattle.nl_meta.specs.Pages.{page_of};
 ghost use Rattle.nl_meta_running.specs.Reading.{stop_of};
-ghost use Rattle.nl_core.specs.Core.{IsCore, running_of};
+ghost use Rattle.nl_core.specs.Core.{IsCore, names_of, running_of};
 ghost use Rattle.nl_core.specs.Goes.{PreservesVolume};
+ghost use Rattle.nl_core.specs.LastCommit.{KeepsRoom};
 ghost use Rattle.nl_core.specs.Programming.{last_stamp};
 ghost use Rattle.nl_calls_files.specs.Fits.{IsFileOf};
 ghost use Rattle.nl_calls_steps.specs.Steps.{ReadsOn};
@@ -51,6 +52,7 @@ pub(crate) fn put_cut<D: MovingPages>(
     ensures ready { OnOk result (CanCut D.Counts core.new worker ino size) }
     ensures others { OtherLinesStay worker core.old.flight core.new.flight }
     ensures early { EndsEarly D.Counts core.old core.new (stop_of result) }
+    ensures at_once { 0 < (names_of D.Counts core.old).space.room → KeepsRoom D.Counts 1 core.old core.new }
 {
     let rec = open_file(core, ino)?;
     if rec.size <= size || size % PAGE == 0 {
@@ -145,6 +147,7 @@ fn program_cut<D: MovingPages>(
     ensures ready { OnOk result (CanCut D.Counts core.new worker ino size) }
     ensures others { OtherLinesStay worker core.old.flight core.new.flight }
     ensures early { EndsEarly D.Counts core.old core.new (stop_of result) }
+    ensures at_once { 0 < (names_of D.Counts core.old).space.room → KeepsRoom D.Counts 1 core.old core.new }
 {
     make_cut(core, ino, size, page)?;
     let tag = Tag {

@@ -9,6 +9,7 @@ ghost use Rattle.nl_meta.specs.Pages.{besides_0, most};
 ghost use Rattle.nl_meta_running.specs.Reading.{stop_of};
 ghost use Rattle.nl_core.specs.Core.{IsCore};
 ghost use Rattle.nl_core.specs.Goes.{PreservesVolume};
+ghost use Rattle.nl_core.specs.LastCommit.{HasRoomAtOnce, KeepsCommit};
 ghost use Rattle.nl_calls_steps.specs.Installing.{FilePointerIsResident};
 ghost use Rattle.nl_calls_steps.specs.Steps.{ReadsOn};
 ghost use Rattle.nl_calls_files.specs.Taking.{HasRoomToTake};
@@ -37,7 +38,7 @@ const MOST: u64 = 16_809_984;
 /// in flight are dropped. `Done` comes where the step of the tree is done, with how many pages files have then; `No` with its refusal,
 /// which is never for want of room; `Fault` where a program, a read or a commit failed; and `Lost` where a page does not hold the write
 /// sequence number under which it is looked for. But for `Done` the tree and the number of pages are as before, and a page may be in flight
-/// for the line.
+/// for the line. Where four more pages of the metadata may become dirty and the device has room for a page, nothing is committed.
 pub fn truncate_call<D: MovingPages>(
     core: &mut Core<D>,
     worker: u8,
@@ -61,6 +62,7 @@ pub fn truncate_call<D: MovingPages>(
     ensures answer { AnswersTruncate D.Counts path.now size core.old result }
     ensures others { OtherLinesStay worker core.old.flight core.new.flight }
     ensures early { EndsEarly D.Counts core.old core.new (stop_in result) }
+    ensures commit { HasRoomAtOnce D.Counts 4 1 core.old → KeepsCommit core.old core.new }
 {
     core.drop_line(worker);
     truncate_alone(core, worker, line, path, size, files, page)
@@ -80,7 +82,8 @@ fn truncate_alone<D: MovingPages>(
     requires stamp { D.next_stamp core.old.device < 2 ^ 62 }
     requires can { CanTruncate D.Counts core.old worker line }
     requires files { HasPagesOfFiles D.Counts core.old files }
-    ensures { Truncates D.Counts worker path.now size core.old core.new result }
+    ensures truncates { Truncates D.Counts worker path.now size core.old core.new result }
+    ensures commit { HasRoomAtOnce D.Counts 4 1 core.old → KeepsCommit core.old core.new }
 {
     match find_there(core, path) {
         Ok(Found::File(ino)) => truncate_found(core, worker, line, path, ino, size, files, page),
@@ -124,7 +127,8 @@ fn truncate_found<D: MovingPages>(
     requires leads { node_reached (nodes_of D.Counts core.old) 0 path.now ≡ Some ino }
     requires file { IsSomeFile D.Counts core.old ino }
     requires files { HasPagesOfFiles D.Counts core.old files }
-    ensures { Truncates D.Counts worker path.now size core.old core.new result }
+    ensures truncates { Truncates D.Counts worker path.now size core.old core.new result }
+    ensures commit { HasRoomAtOnce D.Counts 4 1 core.old → KeepsCommit core.old core.new }
 {
     looks_in_tree();
     if size > MOST {
@@ -159,6 +163,7 @@ fn truncate_file<D: MovingPages>(
     ensures uncut { OnErr result (PreservesVolume D.Counts (2 ^ 31) core.old core.new) }
     ensures others { OtherLinesStay worker core.old.flight core.new.flight }
     ensures early { EndsEarly D.Counts core.old core.new (stop_of result) }
+    ensures commit { HasRoomAtOnce D.Counts 4 1 core.old → KeepsCommit core.old core.new }
 {
     put_cut(core, worker, line, ino, size, page)?;
     if core.stopped != 0 {
@@ -188,6 +193,7 @@ fn cut_now<D: MovingPages>(
     ensures files { IfOk result (HasPagesOfFiles D.Counts core.new) }
     ensures uncut { OnErr result (IsUncut D.Counts core.old core.new) }
     ensures early { EndsEarly D.Counts core.old core.new (stop_of result) }
+    ensures commit { KeepsCommit core.old core.new }
 {
     let mut rec = open_file(core, ino)?;
     hold_end(core, &rec, size)?;
@@ -215,6 +221,7 @@ fn cut_held<D: MovingPages>(
     ensures files { IfOk result (HasPagesOfFiles D.Counts core.new) }
     ensures uncut { OnErr result (IsUncut D.Counts core.old core.new) }
     ensures early { EndsEarly D.Counts core.old core.new (stop_of result) }
+    ensures commit { KeepsCommit core.old core.new }
 {
     device_stands(&core.device);
     let landing = pages_of(&core.flight, worker);

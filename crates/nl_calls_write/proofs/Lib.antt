@@ -9,3 +9,4 @@ pub mod OnePage
 pub mod PageMade
 pub mod Parts
 pub mod Staged
+pub mod Uncommitted

@@ -14,10 +14,12 @@ use Rattle.nl_meta.specs.Consistent.{PageOfStamp}
 use Rattle.nl_meta_running.specs.declared.answer.Stop.{Stop}
 use Rattle.nl_meta_running.specs.declared.answer.Stop.TheVariants as stop
 use Rattle.nl_core.specs.Goes.{PreservesVolume}
+use Rattle.nl_core.specs.LastCommit.{HasRoomAtOnce}
 use Rattle.nl_core.specs.Programming.{HasLineOrNone}
 use Rattle.nl_core.specs.Trees.{CoreRepresentsTree}
 use Rattle.nl_core.specs.declared.state.Core.{Core}
 use Rattle.nl_calls_steps.specs.Lines.{worker_pages}
+use Rattle.nl_calls_bytes.specs.Contents.{count_indexes}
 use Rattle.nl_calls_bytes.specs.Ranges.{from_of, len_of}
 use Rattle.nl_calls_steps.specs.declared.answer.Written.TheVariants as written
 use Rattle.nl_calls_steps.specs.Calls.{HasPagesOfFiles, IfWritten, IfUndone, OtherLinesStay, RepresentsSomeTree, TakesWithin, stop_in}
@@ -46,6 +48,11 @@ pub record CanWriteLine {D : Type 0} (g : Ghosts D) (v : Core D) (worker line : 
   pub files_are : HasPagesOfFiles g v files
   pub staged : AreStaged g v call (worker_pages v worker)
   pub few : (w : ℕ) → length (of_worker v.flight w).pages ≤ 16
+
+-- There is room for the call without a commit: four more pages of the metadata may become dirty, and the device has room for each page in
+-- which some of its bytes lie.
+abbrev pub HasRoomToWrite : {D : Type 0} → Ghosts D → Call → Core D → Type 0
+HasRoomToWrite g call v = HasRoomAtOnce g 4 (count_indexes (from_of call) (len_of call)) v
 
 -- ---- answers
 

@@ -4,10 +4,12 @@ ghost use Rattle.nl_field.specs.Numbers.{max_bytes};
 ghost use Rattle.nl_flight.specs.Flight.{HasFlightRoom, of_worker};
 ghost use Rattle.nl_meta_running.specs.Reading.{stop_of};
 ghost use Rattle.nl_core.specs.Calls.{KeepsLines};
-ghost use Rattle.nl_core.specs.Core.{IsCore};
+ghost use Rattle.nl_core.specs.Core.{IsCore, names_of};
+ghost use Rattle.nl_core.specs.LastCommit.{KeepsRoom};
 ghost use Rattle.nl_core.specs.Programming.{last_stamp};
 ghost use Rattle.nl_calls_steps.specs.Lines.{worker_pages};
 ghost use Rattle.nl_calls_steps.specs.Answers.{EndsEarly};
+ghost use Rattle.nl_calls_bytes.specs.Contents.{count_indexes};
 ghost use Rattle.nl_calls_bytes.specs.InFlight.{AreOfCall, HasAll};
 ghost use Rattle.nl_calls_bytes.specs.Ranges.{from_of, is_written, len_of};
 ghost use Rattle.nl_calls_write.specs.Lines.{AddsFlightPage, CanPut, HasIndex, PutsOn};
@@ -46,6 +48,8 @@ pub(crate) fn put_pages<D: MovingPages>(
     ensures pages { OnOk result (AreOfCall ino generation call.now (worker_pages core.new worker)
         × HasAll call.now (worker_pages core.new worker)) }
     ensures early { EndsEarly D.Counts core.old core.new (stop_of result) }
+    ensures at_once { count_indexes (from_of call.now) (len_of call.now) ≤ (names_of D.Counts core.old).space.room
+        → KeepsRoom D.Counts (count_indexes (from_of call.now) (len_of call.now)) core.old core.new }
 {
     let first = (offset_of(call) / PAGE) as u32;
     let last = ((offset_of(call) + length_of(call) - 1) / PAGE) as u32;
@@ -87,6 +91,7 @@ fn put_index<D: MovingPages>(
     ensures puts { PutsOn D.Counts (2 ^ 30) worker call.now core.old core.new }
     ensures has { OnOk result (HasIndex tag.ino tag.generation worker line call.now tag.index core.old core.new) }
     ensures early { EndsEarly D.Counts core.old core.new (stop_of result) }
+    ensures at_once { 0 < (names_of D.Counts core.old).space.room → KeepsRoom D.Counts 1 core.old core.new }
 {
     if has_index(&core.flight, worker, tag.index) {
         return Ok(());
@@ -115,6 +120,7 @@ fn put_page<D: MovingPages>(
     ensures added { OnOk result (AddsFlightPage worker line tag core.old core.new) }
     ensures none { OnErr result (KeepsLines core.old core.new) }
     ensures early { EndsEarly D.Counts core.old core.new (stop_of result) }
+    ensures at_once { 0 < (names_of D.Counts core.old).space.room → KeepsRoom D.Counts 1 core.old core.new }
 {
     let made = make_page(core, tag.ino, call, tag.index, page);
     device_stands(&core.device);

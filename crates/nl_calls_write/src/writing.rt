@@ -9,11 +9,12 @@ ghost use Rattle.nl_tree.specs.Calls.{IsBounded};
 ghost use Rattle.nl_tree.specs.Represents.{node_reached};
 ghost use Rattle.nl_tree.specs.Step.{is_too_long};
 ghost use Rattle.nl_core.specs.Core.{IsCore};
+ghost use Rattle.nl_core.specs.LastCommit.{KeepsCommit, KeepsRoom};
 ghost use Rattle.nl_core.specs.Programming.{HasLineOrNone};
 ghost use Rattle.nl_calls_steps.specs.Lines.{worker_pages};
 ghost use Rattle.nl_calls_steps.specs.Calls.{HasPagesOfFiles, IfUndone, RepresentsSomeTree};
 ghost use Rattle.nl_calls_steps.specs.Finding.{IsOfGeneration, IsSomeFile, nodes_of};
-ghost use Rattle.nl_calls_write.specs.Calls.{AreStaged, CanWriteLine, EndsWrite, ended_as};
+ghost use Rattle.nl_calls_write.specs.Calls.{AreStaged, CanWriteLine, EndsWrite, HasRoomToWrite, ended_as};
 ghost use Rattle.nl_calls_bytes.specs.Contents.{count_indexes};
 ghost use Rattle.nl_calls_bytes.specs.InFlight.{AreOfCall, HasAll};
 ghost use Rattle.nl_calls_bytes.specs.Ranges.{IsSomeWrite, IsWriting, from_of, len_of, path_of};
@@ -44,6 +45,7 @@ const MOST: u64 = 16_809_984;
 /// once. `Done` comes where the step of the tree is done, with how many pages files have then; `No` with its refusal, also for want of
 /// room; `Fault` where a program or a read failed, and `Lost` where a page does not hold the write sequence number under which it is looked
 /// for. But for `Done` the tree and the number of pages are as before, and pages may be in flight for the line.
+/// Where there is room for the call without a commit, none is made.
 pub fn write_call<D: MovingPages>(
     core: &mut Core<D>,
     worker: u8,
@@ -60,6 +62,7 @@ pub fn write_call<D: MovingPages>(
     ensures core { IsCore D.Counts core.new }
     ensures ends { EndsWrite D.Counts (2 ^ 40) worker call.now core.old core.new result }
     ensures files { IfUndone result (HasPagesOfFiles D.Counts core.new files) }
+    ensures commit { HasRoomToWrite D.Counts call.now core.old → KeepsCommit core.old core.new }
 {
     match write_path(core, worker, line, call, files, page) {
         Ok(written) => written,
@@ -93,6 +96,7 @@ fn write_path<D: MovingPages>(
     requires few { len_of call.now ≤ max_bytes }
     ensures core { IsCore D.Counts core.new }
     ensures ends { EndsWrite D.Counts (2 ^ 40) worker call.now core.old core.new (ended_as result) }
+    ensures commit { HasRoomToWrite D.Counts call.now core.old → KeepsCommit core.old core.new }
 {
     let found = find_file(core, path_written(call));
     device_stands(&core.device);
@@ -125,6 +129,7 @@ fn write_file<D: MovingPages>(
     requires file { IsSomeFile D.Counts core.old ino }
     ensures core { IsCore D.Counts core.new }
     ensures ends { EndsWrite D.Counts (2 ^ 36) worker call.now core.old core.new (ended_as result) }
+    ensures commit { HasRoomToWrite D.Counts call.now core.old → KeepsCommit core.old core.new }
 {
     looks_refuse();
     if length_of(call) == 0 {
@@ -163,6 +168,7 @@ fn write_none<D: MovingPages>(
     requires files { HasPagesOfFiles D.Counts core.old files }
     ensures core { IsCore D.Counts core.new }
     ensures ends { EndsWrite D.Counts 0 worker call.now core.old core.new result }
+    ensures commit { KeepsCommit core.old core.new }
 {
     looks_refuse();
     core.drop_line(worker);
@@ -188,6 +194,7 @@ fn write_some<D: MovingPages>(
     requires file { IsSomeFile D.Counts core.old ino }
     ensures core { IsCore D.Counts core.new }
     ensures ends { EndsWrite D.Counts (2 ^ 36) worker call.now core.old core.new (ended_as result) }
+    ensures commit { HasRoomToWrite D.Counts call.now core.old → KeepsCommit core.old core.new }
 {
     looks_refuse();
     let room = fits(core, ino, offset_of(call), length_of(call), files);
@@ -229,6 +236,7 @@ fn write_pages<D: MovingPages>(
     requires file { IsOfGeneration D.Counts core.old ino generation }
     ensures core { IsCore D.Counts core.new }
     ensures ends { EndsWrite D.Counts (2 ^ 36) worker call.now core.old core.new (ended_as result) }
+    ensures commit { HasRoomToWrite D.Counts call.now core.old → KeepsCommit core.old core.new }
 {
     keep_line(core, worker, line, call, ino, generation);
     match put_pages(core, worker, line, call, ino, generation, page) {
@@ -263,6 +271,7 @@ fn keep_line<D: MovingPages>(
     requires others { (w : ℕ) → length (of_worker core.old.flight w).pages ≤ 16 }
     ensures core { IsCore D.Counts core.new }
     ensures keeps { KeepsLine D.Counts ino generation worker line call.now core.old core.new }
+    ensures room { KeepsRoom D.Counts 0 core.old core.new }
 {
     flight_leads(core);
     device_stands(&core.device);
@@ -292,6 +301,7 @@ fn install_pages<D: MovingPages>(
     requires written { RepresentsWritten D.Counts worker call.now core.old }
     ensures core { IsCore D.Counts core.new }
     ensures ends { EndsWrite D.Counts 512 worker call.now core.old core.new (ended_as result) }
+    ensures commit { length core.old.meta.dirty + 4 ≤ most → KeepsCommit core.old core.new }
 {
     match make_room(core) {
         Ok(()) => install(core, worker, call, ino, files),
@@ -319,6 +329,7 @@ fn install<D: MovingPages>(
     requires room { length (besides_0 core.old.meta.dirty) + 4 ≤ most }
     ensures core { IsCore D.Counts core.new }
     ensures ends { EndsWrite D.Counts 0 worker call.now core.old core.new (ended_as result) }
+    ensures commit { KeepsCommit core.old core.new }
 {
     looks_refuse();
     let room = fits(core, ino, offset_of(call), length_of(call), files);
@@ -353,6 +364,7 @@ fn install_ready<D: MovingPages>(
     requires room { length (besides_0 core.old.meta.dirty) + 4 ≤ most }
     ensures core { IsCore D.Counts core.new }
     ensures ends { EndsWrite D.Counts 0 worker call.now core.old core.new result }
+    ensures commit { KeepsCommit core.old core.new }
 {
     looks_refuse();
     flight_leads(core);

@@ -196,6 +196,7 @@ module _ {D : Type 0} (g : Ghosts D) (v w : Core D) (others : w ≡ record v { d
       at_most = let n = k.next_stamp in omega (arith, n);
       paid = λ low less. let n = k.next_stamp in let c = k.clock in let f = fails in omega (arith, n, c, f);
     };
+    posted = k.pages.given;
     runs = λ tells page_of_stamp tree at. subst (λ (x : Core D). PreservesTree g x page_of_stamp tree) (sym others) (with_none g now page_of_stamp tree (runs_now tells page_of_stamp tree at));
     trees = goes_to;
     left = leaves_to;

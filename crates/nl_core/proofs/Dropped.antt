@@ -270,6 +270,7 @@ module _ {D : Type 0} (g : Ghosts D) (v : Core D) (d : D) (worker : ℕ) (worker
       at_most = let same = b.kept.next_stamp in omega (arith, same);
       paid = λ low less. let n = b.kept.next_stamp in let k = b.kept.clock in let f = b.kept.write_faults in omega (arith, n, k, f);
     };
+    posted = let same = fewer.posted in omega (arith, same);
     runs = λ tells page_of_stamp tree at. with_none g dropped page_of_stamp tree (runs_to tells page_of_stamp tree at);
     trees = goes_to;
     left = λ told page_of_stamp t y is at. keeps_leave g (OpensFrom (g.shape v.device) v.count v.moment t y) v.device d told.tells b.kept;

@@ -3,6 +3,7 @@ pub mod Dropped
 pub mod First
 pub mod Freed
 pub mod HandledNumber
+pub mod LastCommits
 pub mod LineFaults
 pub mod Lines
 pub mod Nearer

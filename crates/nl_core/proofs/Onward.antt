@@ -159,6 +159,7 @@ module _ {D : Type 0} (g : Ghosts D) (u v w : Core D) (m n : ℕ) (a : Preserves
           let two = b.stamps.paid low less in
           omega (arith, one, two);
     };
+    posted = let one = a.posted in let two = b.posted in omega (arith, one, two);
     runs = runs_then;
     trees = trees_then;
     left = left_then;
@@ -192,6 +193,7 @@ goes_more g m n u v low a = record {
   moment = a.moment;
   stops = a.stops;
   stamps = record { never_falls = a.stamps.never_falls; at_most = let most = a.stamps.at_most in omega (arith, most, low); paid = a.stamps.paid };
+  posted = a.posted;
   runs = a.runs;
   trees = a.trees;
   left = a.left;
@@ -215,6 +217,7 @@ goes_none g v core = record {
     some = λ none later. absurd (later none);
   };
   stamps = record { never_falls = omega arith; at_most = omega arith; paid = λ low less. omega arith };
+  posted = omega arith;
   runs = λ tells page_of_stamp tree at. with_none g v page_of_stamp tree at;
   trees = λ told page_of_stamp t at. record {
     pages = page_of_stamp;

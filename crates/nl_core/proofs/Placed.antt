@@ -51,17 +51,19 @@ use Rattle.nl_core.proofs.Written.{below_end, has_free_on, none_failed_on, same_
 
 -- ---- the numbers of the space, and the callbacks
 
--- the segment is the same, a victim's pages can land, and callbacks are pending that were
+-- the segment is the same, a victim's pages can land, callbacks are pending that were, and none was posted
 record Stays (s t : Names) : Type 0 where
   segment : SameSegment s.space t.space
   lands : NoneRetired s.space t.space → CanLand s.space → CanLand t.space
   pending : (c : Callback) → Has t.pending c → Has s.pending c × (t.handled c.number ≡ s.handled c.number)
+  posted : t.posted ≡ s.posted
 
 stays_tables : (s t : Names) → SameTables s t → SameSegment s.space t.space → (NoneRetired s.space t.space → CanLand s.space → CanLand t.space) → Stays s t
 stays_tables s t same segment lands = record {
   segment = segment;
   lands = lands;
   pending = λ c has. (subst (λ (cs : List Callback). Has cs c) same.pending has, same.handled c.number);
+  posted = same.posted;
 }
 
 stays_same : (s t : Names) → t ≡ s → Stays s t
@@ -69,6 +71,7 @@ stays_same s t is = subst (λ (n : Names). Stays s n) (sym is) (record {
   segment = record { block = refl; all = refl; bad = omega arith; kept = refl };
   lands = λ none lands. lands;
   pending = λ c has. (has, refl);
+  posted = refl;
 })
 
 stays : {D : Type 0} (g : Ghosts D) (tag : Tag) (main : List ℕ) (answer : Named) (old new : D) → IfPlaced answer (PlacesNewPage g tag main 0 (g.names old) old new) → ((IsPlaced answer → ⊥) → PlacesNone g answer old new)
@@ -77,6 +80,7 @@ stays g tag main (named.Placed at) old new p none refused = record {
   segment = p.space.same;
   lands = p.space.lessened.lands;
   pending = λ c has. (subst (λ (cs : List Callback). Has cs c) p.names.pending has, p.names.handled c has);
+  posted = p.names.posted;
 }
 stays g tag main named.NotLive old new p none refused = stays_same (g.names old) (g.names new) refused.names
 stays g tag main named.NoPage old new p none refused = stays_same (g.names old) (g.names new) refused.names
@@ -285,6 +289,7 @@ module _ {D : Type 0} (g : Ghosts D) (v : Core D) (d : D) (flight : List InFligh
     clock = b.counts.ticks.clock;
     stops = stops_on g v programmed refl reads_on b.counts.faults.never_falls;
     stamps = record { never_falls = b.next_stamp.never_falls; at_most = b.next_stamp.at_most_one; paid = b.next_stamp.paid };
+    posted = let same = both.posted in omega (arith, same);
     runs = runs_to;
     trees = goes_to;
     left = λ told page_of_stamp t y is at. programmed_left map told page_of_stamp t y is at;

@@ -1,25 +1,26 @@
 -- Callbacks are handled one after the other until none is left, and one victim is cleaned then.
-use Rattle.std.proofs.Common.{◌≡◌, ◌⊎◌, inl, inr, ℕ, ◌+◌, ◌*◌, ◌<◌, ◌≤◌, ◌^◌, length, refl, ap, subst, ◌∙◌, arith}
+use Rattle.std.proofs.Common.{◌≡◌, ◌⊎◌, inl, inr, ⊎_elim, ℕ, ◌+◌, ◌*◌, ◌<◌, ◌≤◌, ◌^◌, length, refl, ap, subst, ◌∙◌, arith}
 use Rattle.nl_core_clean.specs.Laws.{IsOfReclaimPass}
 use Rattle.nl_core_clean.specs.declared.cleaning.Cleaned.{Cleaned}
 use Rattle.nl_core_clean.specs.declared.cleaning.Cleaned.TheVariants as cleaned
 use Rattle.nl_flight.proofs.Carried.{most}
 use Rattle.nl_iface.specs.Device.{IsVolumeShape}
 use Rattle.nl_iface.specs.Moves.{HasNothingToCopy, IsUnhandled}
-use Rattle.nl_iface.specs.Names.{IsNames, IsTableOfNames}
+use Rattle.nl_iface.specs.Names.{Has, IsNames, IsTableOfNames, Names}
 use Rattle.nl_iface.specs.Rounds.{Empties, HasCapacity, IsReclaimPass}
 use Rattle.nl_iface.specs.Space.{IsSpace, Space}
+use Rattle.nl_iface.specs.declared.Callback.{Callback}
 use Rattle.nl_iface.specs.declared.counts.Counts.{Ghosts}
 use Rattle.nl_iface.specs.declared.moving_pages.MovingPages.{Ghosts as Moving}
 use Rattle.nl_iface.proofs.RoundSteps.{a_round_gains, empties_laws, rounds_end}
 use Rattle.nl_tree.specs.declared.turn.DutyAnswer.{DutyAnswer}
 use Rattle.nl_tree.specs.declared.turn.DutyAnswer.TheVariants as duty
 use Rattle.nl_core.specs.Calls.{KeepsLines}
-use Rattle.nl_core.specs.Cleaning.{CleansDevice}
+use Rattle.nl_core.specs.Cleaning.{CleansDevice, IsNewCallback}
 use Rattle.nl_core.specs.Core.{IsCore, names_of}
 use Rattle.nl_core.specs.Goes.{PreservesVolume}
 use Rattle.nl_core.specs.Handling.{HandlesCallback, HandlesNumber, CallbackIsPending}
-use Rattle.nl_core.specs.Rounds.{CleansOne, EmptiesTable, IfRounded, ReclaimPassIsDone}
+use Rattle.nl_core.specs.Rounds.{ArePostedAfter, CleansOne, EmptiesTable, IfRounded, ReclaimPassIsDone}
 use Rattle.nl_core.specs.declared.rounds.Rounded.{Rounded}
 use Rattle.nl_core.specs.declared.rounds.Rounded.TheVariants as rounded
 use Rattle.nl_core.specs.declared.state.Core.{Core}
@@ -123,6 +124,25 @@ none_dead s is no_pairs (inr (zero_in_hand, inr (inr free))) none =
     let kept = is.kept in
     absurd (omega (arith, waiting, keeps, kept, no_pairs, none, free))
 
+-- the names of a core are a table
+pub table_of : {D : Type 0} (g : Ghosts D) (v : Core D) → IsCore g v → IsTableOfNames (names_of g v)
+table_of g v core = let h = core.held in subst (λ (n : Names). IsTableOfNames n) h.is_of.runs.names h.holds.table
+
+-- where none was pending before the cleaning, each callback that is pending was posted by it
+module _ {D : Type 0} (g : Ghosts D) (m : Moving D) (u v w : Core D) (answer : Cleaned) (cleans : CleansDevice g m v w answer) (none : (c : Callback) → Has (names_of g v).pending c → ⊥)
+    (first : (names_of g u).posted ≤ (names_of g v).posted) (second : (names_of g v).posted ≤ (names_of g w).posted) where
+  is_new : (c : Callback) → Has (names_of g w).pending c → IsNewCallback (names_of g v) (names_of g w) c
+  is_new c has = ⊎_elim (λ old. absurd (none c old)) (λ new. new) (cleans.posted c has)
+
+  pub posted_after : ArePostedAfter (names_of g u).posted (names_of g w)
+  posted_after = record {
+    unhandled = λ c has. (is_new c has).0;
+    numbered = λ below. record {
+      above = λ c has. let number = (is_new c has).1 below in let low = first in omega (arith, number, low);
+      posted = let low = first in let high = second in omega (arith, low, high);
+    };
+  }
+
 module _ {D : Type 0} (g : Ghosts D) (m : Moving D) (u v w : Core D) (emptied : EmptiesTable g u v) (core : IsCore g v) (space : IsSpace (names_of g v).space) (law : IsOfReclaimPass)
     (answer : Cleaned) (done : (answer ≡ cleaned.Done) ⊎ (answer ≡ cleaned.Nothing)) (cleans : CleansDevice g m v w answer) where
   has_capacity : HasCapacity (names_of g v).space
@@ -152,9 +172,9 @@ module _ {D : Type 0} (g : Ghosts D) (m : Moving D) (u v w : Core D) (emptied : 
       let n = subst (λ x. CleansDevice g m v w x) is k in
       inr (n, ap (λ (s : Space). s.dead) n.space.2 ∙ none_dead (names_of g v).space space emptied.no_pairs n.space.0 n.space.1)
 
-  pub round_is_done : ReclaimPassIsDone g m u w
+  pub round_is_done : ArePostedAfter (names_of g u).posted (names_of g w) → IsTableOfNames (names_of g w) → ReclaimPassIsDone g m u w
   unfolding is_round
-  round_is_done =
+  round_is_done callbacks table =
       let ends = rounds_end.none_in_hand (names_of g u).space (names_of g w).space is_round space in
       record {
         between = v;
@@ -165,4 +185,6 @@ module _ {D : Type 0} (g : Ghosts D) (m : Moving D) (u v w : Core D) (emptied : 
         none_in_hand = ends.0;
         few_wait = ends.1;
         freed = ap (λ (x : Core D). x.freeing.items) cleans.others ∙ emptied.freed;
+        callbacks = callbacks;
+        told = table.told;
       }

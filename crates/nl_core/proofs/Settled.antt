@@ -344,6 +344,7 @@ module _ {D : Type 0} (g : Ghosts D) (v w u : Core D) (answer : VirtualWrite) (b
       paid = λ low less. let a = first.stamps.paid (subst (λ n. n < top) kept.clock low) (subst (λ n. n < top) kept.write_faults less) in
           let n = kept.next_stamp in let k = kept.clock in let f = kept.write_faults in omega (arith, a, n, k, f);
     };
+    posted = let low = first.posted in let same = fewer.posted in omega (arith, low, same);
     runs = runs_to_u;
     trees = goes_to_u;
     left = λ told page_of_stamp t y is at.

@@ -313,6 +313,7 @@ module _ {D : Type 0} (g : Ghosts D) (v w : Core D) (mark number : ℕ) (answer 
       at_most = let n = kept.next_stamp in omega (arith, n);
       paid = λ low less. let n = kept.next_stamp in let k = kept.clock in let f = kept.write_faults in omega (arith, n, k, f);
     };
+    posted = let same : (names_of g w).posted ≡ (names_of g v).posted = b.handles.marks.posted in omega (arith, same);
     runs = λ tells page_of_stamp tree at. with_none g now page_of_stamp tree (runs_now tells page_of_stamp tree at);
     trees = λ told page_of_stamp t at. goes_as g v now page_of_stamp t (with_none g now page_of_stamp t.running (runs_now told.tells page_of_stamp t.running at.runs)) (stands_on page_of_stamp t told.tells (told_before told) at.stands) at.committed;
     left = λ told page_of_stamp t y same at. record {

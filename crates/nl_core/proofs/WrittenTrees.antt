@@ -188,6 +188,7 @@ module _ {D : Type 0} (g : Ghosts D) (v w : Core D) (answer : VirtualWrite) (b :
     clock = b.clock;
     stops = stops_on g v w b.stopped b.faults.reads_never_fall b.faults.writes_never_fall;
     stamps = b.passes.stamps;
+    posted = let same = b.passes.named.tables.posted in omega (arith, same);
     runs = λ tells page_of_stamp tree at. with_none g w page_of_stamp tree (runs_to tells page_of_stamp tree at);
     trees = goes_to;
     left = leaves_to;

@@ -13,7 +13,7 @@ use Rattle.nl_journal_commit.specs.Completing.{NumberPaid}
 use Rattle.nl_spec_commits.specs.DeviceLaws.{Extends}
 use Rattle.nl_spec_commits.specs.TreeLaws.{OpensFrom}
 use Rattle.nl_spec_commits.specs.Trees.{Prefix, Trees, prefixes}
-use Rattle.nl_core.specs.Core.{begun_of, running_of}
+use Rattle.nl_core.specs.Core.{begun_of, names_of, running_of}
 use Rattle.nl_core.specs.Trees.{CoreRepresentsTree, CoreRepresents, CoreIsObservable}
 use Rattle.nl_core.specs.declared.state.Core.{Core}
 
@@ -49,10 +49,10 @@ abbrev pub PaidSince : {D : Type 0} → Ghosts D → ℕ → ℕ → Core D → 
 PaidSince g clock number v = NumberPaid clock number (g.clock v.device) v.journal.number
 
 -- The core is the volume that it was, but for what a call does beside: the same calls were answered, and nodes have other names of pages at
--- most. Numbers and counts do not fall, and the number of the last transaction rises by no more than the clock does. What is committed
--- changes with a commit page that was finished since. Where the medium tells its contents, it runs on as the tree as which it ran. Where
--- counts have not ended either, it goes on to stand for the trees for which it stood, and what a stop leaves opens as one of them, from the
--- moment of the last commit page on as none earlier than what that one committed.
+-- most. Numbers and counts do not fall, nor does the last number that a callback was given; the number of the last transaction rises by no
+-- more than the clock does. What is committed changes with a commit page that was finished since. Where the medium tells its contents, it
+-- runs on as the tree as which it ran. Where counts have not ended either, it goes on to stand for the trees for which it stood, and what a
+-- stop leaves opens as one of them, from the moment of the last commit page on as none earlier than what that one committed.
 pub record PreservesVolume {D : Type 0} (g : Ghosts D) (most : ℕ) (old new : Core D) : Type 0 where
   pub same_shape : g.shape new.device ≡ g.shape old.device
   pub count : new.count ≡ old.count
@@ -66,6 +66,7 @@ pub record PreservesVolume {D : Type 0} (g : Ghosts D) (most : ℕ) (old new : C
       ⊎ (Earlier (g.clock old.device) new.moment × (g.clock old.device ≤ new.moment))
   pub stops : TurnsReadOnly g old new
   pub stamps : StampsRise g most old.device new.device
+  pub posted : (names_of g old).posted ≤ (names_of g new).posted
   pub runs : g.tells → (page_of_stamp : ℕ → Option PageOfStamp) (tree : Tree) → CoreRepresentsTree g old page_of_stamp tree
       → PreservesTree g new page_of_stamp tree
   pub trees : CoreIsObservable g new → (page_of_stamp : ℕ → Option PageOfStamp) (t : Trees) → CoreRepresents g old page_of_stamp t

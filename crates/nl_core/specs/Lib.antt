@@ -5,6 +5,7 @@ pub mod Dropping
 pub mod Duties
 pub mod Goes
 pub mod Handling
+pub mod LastCommit
 pub mod Laws
 pub mod Lines
 pub mod Programming

@@ -1,6 +1,7 @@
 //! Laws of a core between two calls: what it stores, where its pages in flight lead, how many pages files have. A function stands for each.
 ghost use Rattle.std.specs.Prelude.{◌≡◌};
 ghost use Rattle.nl_core.specs.Core.{IsCore};
+ghost use Rattle.nl_core.specs.LastCommit.{CommitRows};
 ghost use Rattle.nl_core.specs.Laws.{FlightLeads, PagesStayAsMany, StoredOpens};
 
 use crate::state::Core;
@@ -28,4 +29,9 @@ pub fn flight_leads<D: MovingPages>(core: &Core<D>)
 /// Where nodes are the same but for names of pages, files have as many pages.
 pub fn pages_stay_as_many()
     ensures { PagesStayAsMany }
+{}
+
+/// The last commit stays where a call is counted, and does not where its moment or its count of calls is another one.
+pub fn commit_stays<D: MovingPages>()
+    ensures { CommitRows D.Counts }
 {}

@@ -11,6 +11,7 @@ mod handling;
 pub mod laws;
 mod programming;
 mod rounds;
+pub mod rows;
 mod state;
 
 pub use programming::Programmed;

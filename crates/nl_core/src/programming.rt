@@ -8,6 +8,7 @@ ghost use Rattle.nl_iface.specs.Names.{IsNames};
 ghost use Rattle.nl_core.specs.Calls.{FailureIsCounted};
 ghost use Rattle.nl_core.specs.Core.{IsCore, names_of};
 ghost use Rattle.nl_core.specs.Goes.{PreservesVolume};
+ghost use Rattle.nl_core.specs.LastCommit.{KeepsRoom};
 ghost use Rattle.nl_core.specs.Programming.{HasLineOrNone, ProgramsNewName, ProgramsFor, PutsNone, PutsPage, last_stamp, line_of, with_page};
 ghost use Rattle.nl_core.specs.Writing.{stopped_on};
 
@@ -36,8 +37,8 @@ const END: u64 = (1 << 62) + (1 << 40);
 
 impl<D: MovingPages> Core<D> {
     /// Programs a page for a worker's line, which is this one or begins with it. The page is in flight from now on, behind the others of
-    /// the line. Where the device has no room for it, rounds of reclaiming make some: they always do. `Stopped` exactly where the volume is
-    /// read-only or the next write sequence number has reached 2^62 + 2^40.
+    /// the line. Where the device has no room for it, rounds of reclaiming make some: they always do. Where it has room, no round is made,
+    /// and nothing is committed. `Stopped` exactly where the volume is read-only or the next write sequence number has reached 2^62 + 2^40.
     pub fn program(&mut self, worker: u8, line: u32, tag: Tag, from: &PageBuf) -> Programmed
         requires core { IsCore D.Counts self.old }
         requires known { worker < 8 }
@@ -49,6 +50,7 @@ impl<D: MovingPages> Core<D> {
         ensures stopped { result ≡ Programmed.Stopped ↔ (self.old.stopped ≢ 0) ⊎ (last_stamp ≤ D.next_stamp self.old.device) }
         ensures programs { ProgramsFor D.Counts worker line tag from.now.main self.old self.new result }
         ensures faults { FailureIsCounted D.Counts (result ≡ Programmed.Fault) self.old self.new }
+        ensures at_once { 0 < (names_of D.Counts self.old).space.room → KeepsRoom D.Counts 1 self.old self.new }
     {
         if self.stopped != 0 || self.device.next_stamp() >= END {
             return Programmed::Stopped;
@@ -70,6 +72,7 @@ impl<D: MovingPages> Core<D> {
         ensures runs { result ≢ Programmed.Stopped }
         ensures programs { ProgramsFor D.Counts worker line tag from.now.main self.old self.new result }
         ensures faults { FailureIsCounted D.Counts (result ≡ Programmed.Fault) self.old self.new }
+        ensures at_once { 0 < (names_of D.Counts self.old).space.room → KeepsRoom D.Counts 1 self.old self.new }
     {
         device_stands(&self.device);
         let mut answer = self.place_once(worker, line, tag, from);
@@ -109,6 +112,7 @@ impl<D: MovingPages> Core<D> {
         ensures placed { IfPlaced result (PutsPage D.Counts worker line tag from.now.main self.old self.new) }
         ensures none { (IsPlaced result → ⊥) → PutsNone D.Counts result self.old self.new }
         ensures faults { FailureIsCounted D.Counts (result ≡ Named.Fault) self.old self.new }
+        ensures at_once { KeepsRoom D.Counts 1 self.old self.new }
     {
         match self.place(tag, from) {
             Named::Placed(at) => {

@@ -27,7 +27,8 @@ pub enum Rounded {
 
 impl<D: MovingPages> Core<D> {
     /// One round of reclaiming: each pending callback is handled, the metadata is committed where a page awaits its free or an old name
-    /// stands, and one victim is cleaned, where there is one.
+    /// stands, and one victim is cleaned, where there is one. Each callback that is pending afterwards was posted in the round, and each
+    /// old name belongs to one of them.
     pub fn round(&mut self) -> Rounded
         requires core { IsCore D.Counts self.old }
         requires writes { self.old.stopped ≡ 0 }

@@ -20,7 +20,7 @@ use Rattle.nl_core.specs.Goes.{PreservesVolume}
 use Rattle.nl_core.specs.declared.state.Core.{Core}
 use Rattle.nl_core.proofs.Onward.{goes_then}
 use Rattle.nl_calls_steps.proofs.Stepping.{steps_run}
-use Rattle.nl_calls_steps.specs.Calls.{MakesTree}
+use Rattle.nl_calls_steps.specs.Calls.{MakesTree, counts_of}
 use Rattle.nl_spec_crashes.specs.Effects.{counted}
 use Rattle.nl_turns.specs.History.{Opening, call_at, fault_of, is_effect, is_sync, opening_counts}
 use Rattle.nl_turns.specs.Served.{IsLineOf, effect_entry, fault_mark, sync_mark}
@@ -28,7 +28,7 @@ use Rattle.nl_turns.specs.declared.entry.Entry.{Entry}
 use Rattle.nl_turns.specs.declared.entry.SyncMark.TheVariants.{NoSync, At}
 use Rattle.nl_calls.specs.Answering.{MakesEffect, HasEffectOf, Syncs, is_sync_call, is_synced}
 use Rattle.nl_volume.specs.Effects.{AnswersLine}
-use Rattle.nl_volume_stage.specs.Serving.{counts_of, refusing_of, some_number, staged_fault}
+use Rattle.nl_volume_stage.specs.Serving.{refusing_of, some_number, staged_fault}
 use Rattle.nl_volume_stage.specs.Standing.{FlightIsOfLines, IsInFlight, FaultReplyHasCause, NumbersDiffer, Serves, RepresentsHistory}
 use Rattle.nl_volume_stage.specs.Turns.{AreCounts}
 use Rattle.nl_volume_stage.proofs.Causes.{still_cause}

@@ -21,7 +21,8 @@ use Rattle.nl_turns.specs.Served.{IsLineOf, StaysReadOnly, effect_entry, ordinal
 use Rattle.nl_turns.specs.declared.entry.Entry.{Entry}
 use Rattle.nl_calls.specs.Answering.{MakesEffect, HasEffectOf}
 use Rattle.nl_volume.specs.Effects.{AnswersLine}
-use Rattle.nl_volume_stage.specs.Serving.{counts_of, refusing_of, some_number, to_stage_of}
+use Rattle.nl_calls_steps.specs.Calls.{counts_of}
+use Rattle.nl_volume_stage.specs.Serving.{refusing_of, some_number, to_stage_of}
 use Rattle.nl_volume_stage.specs.Standing.{RepresentsHistory}
 use Rattle.nl_volume_stage.specs.Turns.{AreCounts}
 use Rattle.nl_volume.proofs.Answering.{line_stands}

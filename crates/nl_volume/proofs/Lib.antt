@@ -3,3 +3,4 @@ pub mod Begins
 pub mod Effected
 pub mod Opens
 pub mod Trees
+pub mod Uncommitted

@@ -11,7 +11,7 @@ use Rattle.nl_meta.specs.Walk.{walk}
 use Rattle.nl_core.specs.Core.{begun_of}
 use Rattle.nl_core.specs.declared.state.Core.{Core}
 use Rattle.nl_spec_image.specs.Stands.{IsConsistentImage}
-use Rattle.nl_spec_image.proofs.SoundProofs.{walk_is_soundness}
+use Rattle.nl_spec_image.proofs.SoundProofs.{walk_finds_consistency}
 use Rattle.nl_volume.specs.Opened.{VolumeOpensAs, OpensOn}
 
 -- a volume that opened on a medium opened on each medium that has the same contents
@@ -26,7 +26,7 @@ opens_on_same g image image' v same o = record {
 
 -- a walk that finds a fault finds an image that is not sound
 pub not_sound : (image : Image) (place : Place) → walk image ≡ Some place → IsConsistentImage image → ⊥
-not_sound image place fault s = cc (sym ((walk_is_soundness image s.2.stands.pages_whole).1 s) ∙ fault)
+not_sound image place fault s = cc (sym ((walk_finds_consistency image s.2.stands.pages_whole).1 s) ∙ fault)
 
 pub both_ok : {T E : Type 0} (r : Result T E) (P Q R : T → Type 0) → ((x : T) → P x → Q x → R x) → IfOk r P → IfOk r Q → IfOk r R
 both_ok (Ok x) P Q R to p q = to x p q

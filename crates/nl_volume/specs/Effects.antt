@@ -1,6 +1,6 @@
 -- What the effect of a line does to a volume, and what it answers.
-use Rattle.std.specs.Prelude.{◌≡◌, ℕ, ◌&&◌, List, is_none}
-use Rattle.nl_tree.specs.Causes.{FaultIsDue, fault_in}
+use Rattle.std.specs.Prelude.{◌≡◌, ◌≢◌, ◌⊎◌, ℕ, ◌^◌, ◌≤◌, ◌&&◌, false, List, is_none}
+use Rattle.nl_tree.specs.Causes.{FaultIsDue, fault_in, is_changing}
 use Rattle.nl_tree.specs.declared.call.Call.{Call}
 use Rattle.nl_tree.specs.declared.reply.Reply.{Reply}
 use Rattle.nl_iface.specs.declared.counts.Counts.{Ghosts}
@@ -8,7 +8,8 @@ use Rattle.nl_iface.specs.declared.moving_pages.MovingPages.{Ghosts as Moving}
 use Rattle.nl_core.specs.Core.{IsCore}
 use Rattle.nl_core.specs.declared.state.Core.{Core}
 use Rattle.nl_calls.specs.Answering.{AnswersOn, RunsReclaimPass, EndsLine, HasEffectOf, is_sync_call, is_synced, pages_of_files}
-use Rattle.nl_volume_stage.specs.Serving.{counts_of, refusing_of}
+use Rattle.nl_calls_steps.specs.Calls.{counts_of}
+use Rattle.nl_volume_stage.specs.Serving.{refusing_of}
 use Rattle.nl_spec_crashes.specs.Effects.{counted}
 
 -- A line was refused before it was tried, or tried: its reply is the one that is due, it had its effect, and a fault has its cause. Exactly
@@ -25,3 +26,7 @@ pub record AnswersLine {D : Type 0} (g : Ghosts D) (worker line : ℕ) (call : C
 -- A round of reclaiming was done, and then the call was counted.
 abbrev pub CleansAndCounts : {D : Type 0} → Ghosts D → Moving D → Core D → Core D → Type 0
 CleansAndCounts {D} g m old new = (between : Core D) × RunsReclaimPass g m old between × (new ≡ counted between)
+
+-- The call only looks, or the volume is read-only or worn.
+abbrev pub CannotChange : {D : Type 0} → Ghosts D → Call → Core D → Type 0
+CannotChange g call v = (is_changing call ≡ false) ⊎ (v.stopped ≢ 0) ⊎ (2 ^ 62 ≤ g.next_stamp v.device)

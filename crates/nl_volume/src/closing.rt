@@ -8,7 +8,7 @@ ghost use Rattle.nl_tree.specs.Causes.{FaultRose, NeverFall};
 ghost use Rattle.nl_turns.specs.History.{Opening, effects, opening_counts, tree_after};
 ghost use Rattle.nl_turns.specs.Served.{StandsForSome};
 ghost use Rattle.nl_turns.specs.declared.entry.Entry.{Entry as TurnEntry};
-ghost use Rattle.nl_volume_stage.specs.Serving.{counts_of};
+ghost use Rattle.nl_calls_steps.specs.Calls.{counts_of};
 ghost use Rattle.nl_volume.specs.Closing.{CommitsLast, ClosesCommitted, IsYoungAtEnd, LosesLastCommit, counts_on};
 ghost use Rattle.nl_volume_stage.specs.Standing.{run_of};
 ghost use Rattle.nl_volume.specs.declared.volume.Volume.{Volume as VolumeOf};

@@ -5,7 +5,8 @@ ghost use Rattle.nl_core.specs.Duties.{RunsBackgroundTask};
 ghost use Rattle.nl_turns.specs.History.{Opening};
 ghost use Rattle.nl_turns.specs.Served.{NoMoreToStage, StandsForSome, StaysReadOnly, duty_entry};
 ghost use Rattle.nl_turns.specs.declared.entry.Entry.{Entry as TurnEntry};
-ghost use Rattle.nl_volume_stage.specs.Serving.{counts_of, refusing_of, some_number, to_stage_of};
+ghost use Rattle.nl_calls_steps.specs.Calls.{counts_of};
+ghost use Rattle.nl_volume_stage.specs.Serving.{refusing_of, some_number, to_stage_of};
 ghost use Rattle.nl_volume.specs.Moving.{moving};
 ghost use Rattle.nl_volume.specs.declared.volume.Volume.{Volume as VolumeOf};
 

@@ -4,9 +4,12 @@ ghost use Rattle.nl_tree.specs.Causes.{FaultIsDue, NeverFall, fault_due};
 ghost use Rattle.nl_tree.specs.Replay.{Answers};
 ghost use Rattle.nl_tree.specs.declared.call.Call.TheVariants.{Clean};
 ghost use Rattle.nl_turns.specs.Served.{FaultHasCause, FromEachWithLine, StandsForSomeWithLine, StaysReadOnly, effect_entry, ordinal_due, outcome_due, place_due};
+ghost use Rattle.nl_core.specs.LastCommit.{KeepsCommit, LeavesMedium};
 ghost use Rattle.nl_calls.specs.Answering.{EndsLine, RunsReclaimPass, pages_of_files};
-ghost use Rattle.nl_volume.specs.Effects.{AnswersLine, CleansAndCounts};
-ghost use Rattle.nl_volume_stage.specs.Serving.{counts_of, refusing_of, some_number, to_stage_of};
+ghost use Rattle.nl_calls.specs.Commits.{NeedsNoCommit};
+ghost use Rattle.nl_volume.specs.Effects.{AnswersLine, CannotChange, CleansAndCounts};
+ghost use Rattle.nl_calls_steps.specs.Calls.{counts_of};
+ghost use Rattle.nl_volume_stage.specs.Serving.{refusing_of, some_number, to_stage_of};
 ghost use Rattle.nl_volume_stage.specs.Staging.{RepresentsWithLine};
 ghost use Rattle.nl_volume.specs.Moving.{moving};
 
@@ -27,7 +30,9 @@ impl<M: Nand> Volume<M> {
     /// bytes that belong to it in the buffer. A line whose staging failed is answered with that number; one that changes something is
     /// refused on a volume that is read-only or worn; else a fault comes only of what failed within. Pages in flight of another line of the
     /// worker are freed first, and nothing of the worker is in flight afterwards; lines of other workers stay. A call for cleaning that is
-    /// done did a round of reclaiming.
+    /// done did a round of reclaiming. Nothing is committed but by a sync, by a call for cleaning, and where there is no room for the pages
+    /// that the call makes dirty or programs. A call that only looks leaves the medium and the last commit as they are; so does each call
+    /// on a volume that is read-only or worn.
     pub fn effect(&mut self, worker: u8, line: u32, call: &Call, out: &mut ReplyBuf) -> Answered
         requires { StandsForSomeWithLine ⟦<Volume<M> as Kept>⟧.stands self.old worker line call.now }
         ensures stands { FromEachWithLine ⟦<Volume<M> as Kept>⟧.stands self.old worker line call.now
@@ -56,6 +61,9 @@ impl<M: Nand> Volume<M> {
         ensures cleaned { call.now ≡ Clean → result.reply ≡ Reply.Done → CleansAndCounts ⟦<Device<M> as Counts>⟧
             (moving ⟦<Device<M> as MovingPages>⟧.victim ⟦<Device<M> as MovingPages>⟧.most_dead ⟦<Device<M> as MovingPages>⟧.coldest ⟦<Device<M> as MovingPages>⟧.blank)
             self.old.core self.new.core }
+        ensures kept { CannotChange ⟦<Device<M> as Counts>⟧ call.now self.old.core
+            → LeavesMedium ⟦<Device<M> as Counts>⟧ self.old.core self.new.core }
+        ensures commit { NeedsNoCommit ⟦<Device<M> as Counts>⟧ call.now self.old.core → KeepsCommit self.old.core self.new.core }
         ensures wear { (self.new.least ≡ self.old.least) × (self.new.greatest ≡ self.old.greatest) }
     {
         out.clear();
@@ -97,6 +105,8 @@ fn answer<D: MovingPages>(
     requires nothing { out.old ≡ [] }
     ensures answers { AnswersLine D.Counts worker line call.now core.old core.new result.reply out.new result.files }
     ensures cleaned { call.now ≡ Clean → result.reply ≡ Reply.Done → RunsReclaimPass D.Counts D.MovingPages.own core.old core.new }
+    ensures kept { CannotChange D.Counts call.now core.old → LeavesMedium D.Counts core.old core.new }
+    ensures commit { NeedsNoCommit D.Counts call.now core.old → KeepsCommit core.old core.new }
 {
     match refusal(core, worker, line, call) {
         Some(fault) => {
@@ -127,6 +137,8 @@ fn try_line<D: MovingPages>(
     requires tried { fault_due (refusing_of D.Counts core.old worker line) call.now ≡ None }
     ensures answers { AnswersLine D.Counts worker line call.now core.old core.new result.reply out.new result.files }
     ensures cleaned { call.now ≡ Clean → result.reply ≡ Reply.Done → RunsReclaimPass D.Counts D.MovingPages.own core.old core.new }
+    ensures kept { CannotChange D.Counts call.now core.old → LeavesMedium D.Counts core.old core.new }
+    ensures commit { NeedsNoCommit D.Counts call.now core.old → KeepsCommit core.old core.new }
 {
     leave_other(core, worker, line);
     answer_call(core, worker, line, call, files, out, page)

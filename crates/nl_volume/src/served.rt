@@ -8,7 +8,8 @@ use nl_turns::Served;
 
 impl<M: Nand> Served for Volume<M> {
     ghost use Rattle.std.specs.Prelude.{refl};
-    ghost use Rattle.nl_volume_stage.specs.Serving.{counts_of, refusing_of, some_number, to_stage_of};
+    ghost use Rattle.nl_calls_steps.specs.Calls.{counts_of};
+    ghost use Rattle.nl_volume_stage.specs.Serving.{refusing_of, some_number, to_stage_of};
 
     ghost tells = { M.tells };
 

@@ -1,9 +1,10 @@
 // The staging of one page of a line ahead of its effect.
-ghost use Rattle.std.specs.Prelude.{◌≡◌, ◌≢◌, ◌⊎◌, ◌↔◌, ◌≤◌, ◌^◌, ℕ, ◌++◌, ◌∷◌, []};
+ghost use Rattle.std.specs.Prelude.{◌≡◌, ◌≢◌, ◌⊎◌, ◌↔◌, ◌≤◌, ◌<◌, ◌^◌, ℕ, ◌++◌, ◌∷◌, []};
 ghost use Rattle.nl_tree.specs.Causes.{FaultRose, LostHasCause, NeverFall, fault_sum};
+ghost use Rattle.nl_core.specs.LastCommit.{KeepsCommit, LeavesMedium};
 ghost use Rattle.nl_turns.specs.Served.{FromEachWithLine, KeepsStagedFaults, StagesLess, StandsForSomeWithLine, StaysReadOnly, is_fault, is_staged, stage_entry};
-ghost use Rattle.nl_calls_steps.specs.Calls.{OtherLinesStay};
-ghost use Rattle.nl_volume_stage.specs.Serving.{counts_of, refusing_of, some_number, to_stage_of};
+ghost use Rattle.nl_calls_steps.specs.Calls.{OtherLinesStay, counts_of};
+ghost use Rattle.nl_volume_stage.specs.Serving.{refusing_of, some_number, to_stage_of};
 ghost use Rattle.nl_volume_stage.specs.StagedPages.{IsTagOfCall, LeavesInFlight, StaysWritable};
 ghost use Rattle.nl_volume_stage.specs.Staging.{TellsLeft};
 
@@ -21,7 +22,8 @@ impl<M: Nand> Volume<M> {
     /// that lies wholly in its range, or its range ends behind the greatest size. Where none is left, `Fault` and `Lost` come only from
     /// reading what the path leads to. Pages in flight of another line of the worker are freed first, and lines of other workers stay. The
     /// page is one of the file to which the path leads now, of the generation that the file has. `Staged`, `Whole` and `Lost` come only
-    /// where no write failed.
+    /// where no write failed. `Stopped` and `Whole` leave the medium and the last commit as they are, and nothing is committed where the
+    /// device has room for a page.
     pub fn stage(&mut self, worker: u8, line: u32, call: &Call) -> Stage
         requires { StandsForSomeWithLine ⟦<Volume<M> as Kept>⟧.stands self.old worker line call.now }
         ensures stands { FromEachWithLine ⟦<Volume<M> as Kept>⟧.stands self.old worker line call.now
@@ -41,6 +43,9 @@ impl<M: Nand> Volume<M> {
         ensures fault { result ≡ Stage.Fault
             → FaultRose (counts_of ⟦<Device<M> as Counts>⟧ self.old.core.device) (counts_of ⟦<Device<M> as Counts>⟧ self.new.core.device) }
         ensures lost { (wanted : ℕ) (found : ℕ) → result ≡ Stage.Lost wanted found → LostHasCause M.tells wanted found }
+        ensures kept { (result ≡ Stage.Stopped) ⊎ (result ≡ Stage.Whole)
+            → LeavesMedium ⟦<Device<M> as Counts>⟧ self.old.core self.new.core }
+        ensures commit { 0 < (⟦<Device<M> as Counts>⟧.names self.old.core.device).space.room → KeepsCommit self.old.core self.new.core }
         ensures wear { (self.new.least ≡ self.old.least) × (self.new.greatest ≡ self.old.greatest) }
         ensures in_flight { LeavesInFlight ⟦<Device<M> as Counts>⟧ worker line
             (IsTagOfCall ⟦<Device<M> as Counts>⟧ self.old.core call.now) self.old.core self.new.core result }

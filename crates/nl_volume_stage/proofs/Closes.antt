@@ -13,9 +13,9 @@ use Rattle.nl_iface.specs.Device.{IsVolumeShape}
 use Rattle.nl_iface.specs.Stored.{Stored, stored_in}
 use Rattle.nl_iface.specs.declared.counts.Counts.{Ghosts}
 use Rattle.nl_spec_image.specs.Crash.{OpensAsPrefix, Run, CrashesSafely}
-use Rattle.nl_spec_image.specs.LeftIsSound.{LeavesTree}
+use Rattle.nl_spec_image.specs.CrashConsistency.{LeavesTree}
 use Rattle.nl_spec_image.specs.Stands.{ConsistentAs}
-use Rattle.nl_spec_image.proofs.LeftIsSoundProofs.{what_is_left_is_sound}
+use Rattle.nl_spec_image.proofs.CrashConsistencyProofs.{crash_leaves_consistent}
 use Rattle.nl_journal_commit.proofs.Paid.{has_number}
 use Rattle.nl_spec_commits.specs.Trees.{StoredOpensAs}
 use Rattle.nl_core.specs.Calls.{CommitsAll}
@@ -29,7 +29,7 @@ use Rattle.nl_spec_crashes.specs.Along.{FollowsRun, opens_as}
 use Rattle.nl_spec_crashes.proofs.Along.{call_goes_along, ends_standing, opens_sound}
 use Rattle.nl_turns.specs.History.{Opening, effects, opening_counts, tree_after}
 use Rattle.nl_turns.specs.declared.entry.Entry.{Entry}
-use Rattle.nl_volume_stage.specs.Serving.{counts_of}
+use Rattle.nl_calls_steps.specs.Calls.{counts_of}
 use Rattle.nl_volume_stage.specs.Standing.{RepresentsHistory, run_of}
 use Rattle.nl_volume_stage.specs.declared.closing.Last.{Last}
 use Rattle.nl_volume_stage.specs.declared.closing.Last.TheVariants as last_is
@@ -64,7 +64,7 @@ module _ {D : Type 0} (g : Ghosts D) (run : Run) (before left : ℕ → g.Crash 
 pub sound_end : {D : Type 0} (g : Ghosts D) (shape : Shape) (s : D) (image : Image) (count : ℕ) (tree : Tree) → stored g s ≡ stored_in image → IsTrue (is_image image) → shape ≡ shape_of_image image
     → StoredOpensAs shape (stored g s) (count, tree) → ConsistentAs image count tree
 sound_end g shape s image count tree holds whole same l =
-    what_is_left_is_sound l.0 l.1 l.2 image count tree whole
+    crash_leaves_consistent l.0 l.1 l.2 image count tree whole
     (subst (λ (h : Shape). LeavesTree h l.0 l.1 l.2 (stored_in image) count tree) same (subst (λ (k : Stored). LeavesTree shape l.0 l.1 l.2 k count tree) holds l.3))
 
 -- ---- the last call of the core

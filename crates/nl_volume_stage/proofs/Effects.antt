@@ -26,7 +26,7 @@ use Rattle.nl_core.specs.Core.{IsCore, running_of}
 use Rattle.nl_core.specs.declared.state.Core.{Core}
 use Rattle.nl_calls_steps.specs.Steps.{Steps}
 use Rattle.nl_spec_crashes.specs.Along.{FollowsRun}
-use Rattle.nl_calls_steps.specs.Calls.{MakesTree}
+use Rattle.nl_calls_steps.specs.Calls.{MakesTree, counts_of}
 use Rattle.nl_spec_crashes.specs.Effects.{counted}
 use Rattle.nl_spec_crashes.proofs.Along.{effect_goes_along, sync_goes_along}
 use Rattle.nl_spec_crashes.proofs.Effects.{step_takes_effect}
@@ -34,7 +34,6 @@ use Rattle.nl_turns.specs.History.{IsKnown, IsSyncInRange, Opening, call_at, cal
 use Rattle.nl_turns.specs.declared.entry.Entry.{Entry}
 use Rattle.nl_turns.specs.declared.entry.SyncMark.{SyncMark}
 use Rattle.nl_turns.specs.declared.entry.SyncMark.TheVariants.{NoSync, At}
-use Rattle.nl_volume_stage.specs.Serving.{counts_of}
 use Rattle.nl_volume_stage.specs.Standing.{FaultReplyHasCause, MomentsRise, Serves, run_of}
 use Rattle.nl_volume_stage.proofs.Causes.{later_then, still_cause, still_failed}
 use Rattle.nl_volume_stage.specs.Turns.{PreservesCore}

@@ -23,7 +23,7 @@ use Rattle.nl_calls_steps.proofs.LineEnds.{flight_step, other_lines}
 use Rattle.nl_turns.specs.History.{Opening, fault_of, opening_counts}
 use Rattle.nl_turns.specs.Served.{IsLineOf}
 use Rattle.nl_turns.specs.declared.entry.Entry.{Entry}
-use Rattle.nl_volume_stage.specs.Serving.{counts_of}
+use Rattle.nl_calls_steps.specs.Calls.{counts_of}
 use Rattle.nl_calls_write.specs.Calls.{IsStagedPage}
 use Rattle.nl_volume_stage.specs.Standing.{FlightIsOfLines, IsInFlight, FaultReplyHasCause, NumbersDiffer, RepresentsHistory}
 use Rattle.nl_volume_stage.specs.Turns.{AreCounts, FailsSince}

@@ -24,7 +24,7 @@ use Rattle.nl_core.proofs.Lines.{of_line}
 use Rattle.nl_volume_stage.proofs.Alike.{line_alike}
 use Rattle.nl_turns.specs.History.{Opening, opening_counts}
 use Rattle.nl_turns.specs.Served.{IsLineOf}
-use Rattle.nl_volume_stage.specs.Serving.{counts_of}
+use Rattle.nl_calls_steps.specs.Calls.{counts_of}
 use Rattle.nl_calls_write.specs.Calls.{IsStagedPage}
 use Rattle.nl_volume_stage.specs.Standing.{FlightIsOfLines, IsInFlight}
 use Rattle.nl_volume_stage.specs.Turns.{FaultsStay}

@@ -17,3 +17,4 @@ pub mod Serving
 pub mod Staged
 pub mod Stages
 pub mod Standing
+pub mod Uncommitted

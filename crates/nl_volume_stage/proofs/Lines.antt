@@ -25,7 +25,7 @@ use Rattle.nl_core.specs.Trees.{CoreRepresentsTree}
 use Rattle.nl_core.specs.declared.state.Core.{Core}
 use Rattle.nl_turns.specs.History.{Opening, opening_counts}
 use Rattle.nl_turns.specs.Served.{IsLineOf}
-use Rattle.nl_volume_stage.specs.Serving.{counts_of}
+use Rattle.nl_calls_steps.specs.Calls.{counts_of}
 use Rattle.nl_calls_write.specs.Calls.{IsStagedPage}
 use Rattle.nl_volume_stage.specs.Standing.{FlightIsOfLines, IsInFlight, first_whole}
 use Rattle.nl_volume_stage.specs.Turns.{FaultsStay}

@@ -18,7 +18,7 @@ use Rattle.nl_core.specs.Programming.{HasLineOrNone, PutsInFlight, behind, line_
 use Rattle.nl_core.specs.declared.state.Core.{Core}
 use Rattle.nl_core.proofs.Renamed.{maps_apart}
 use Rattle.nl_calls_steps.specs.Steps.{ReadsOn}
-use Rattle.nl_volume_stage.specs.Serving.{counts_of}
+use Rattle.nl_calls_steps.specs.Calls.{counts_of}
 use Rattle.nl_volume_stage.specs.StagedPages.{AddsLinePage, EndsTried, KeepsLinePages, LeavesInFlight, StagesPage, StaysWritable, flight_for, flight_of}
 use Rattle.nl_volume_stage.specs.Turns.{FaultsStay}
 use Rattle.nl_volume_stage.proofs.Alike.{line_alike}

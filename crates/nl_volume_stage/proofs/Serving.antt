@@ -21,7 +21,8 @@ use Rattle.nl_turns.specs.History.{Opening}
 use Rattle.nl_tree.specs.declared.turn.DutyAnswer.{DutyAnswer}
 use Rattle.nl_turns.specs.Served.{IsLineOf, NoMoreToStage, StaysReadOnly, duty_entry}
 use Rattle.nl_turns.specs.declared.entry.Entry.{Entry}
-use Rattle.nl_volume_stage.specs.Serving.{counts_of, some_number, staged_fault, to_stage_of}
+use Rattle.nl_calls_steps.specs.Calls.{counts_of}
+use Rattle.nl_volume_stage.specs.Serving.{some_number, staged_fault, to_stage_of}
 use Rattle.nl_volume_stage.specs.Standing.{Serves, RepresentsHistory}
 use Rattle.nl_volume_stage.specs.Turns.{AreCounts}
 use Rattle.nl_volume_stage.proofs.Causes.{first_sum}

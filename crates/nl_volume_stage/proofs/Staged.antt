@@ -10,7 +10,8 @@ use Rattle.nl_core.specs.declared.state.Core.{Core}
 use Rattle.nl_turns.specs.History.{Opening}
 use Rattle.nl_turns.specs.Served.{IsLineOf, KeepsStagedFaults, StagesLess, StaysReadOnly, is_fault, is_staged, stage_entry}
 use Rattle.nl_turns.specs.declared.entry.Entry.{Entry}
-use Rattle.nl_volume_stage.specs.Serving.{counts_of, refusing_of, some_number, to_stage_of}
+use Rattle.nl_calls_steps.specs.Calls.{counts_of}
+use Rattle.nl_volume_stage.specs.Serving.{refusing_of, some_number, to_stage_of}
 use Rattle.nl_volume_stage.specs.Staging.{StagesOn}
 use Rattle.nl_volume_stage.specs.Standing.{RepresentsHistory}
 use Rattle.nl_volume_stage.proofs.Serving.{never_fall, staged_same, stays_read_only, to_stage_same}

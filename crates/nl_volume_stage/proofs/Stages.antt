@@ -24,7 +24,8 @@ use Rattle.nl_calls_steps.specs.Steps.{ReadsOn}
 use Rattle.nl_calls_steps.proofs.LineEnds.{flight_step}
 use Rattle.nl_calls_steps.proofs.Stepping.{read_alike}
 use Rattle.nl_turns.specs.Served.{is_fault}
-use Rattle.nl_volume_stage.specs.Serving.{counts_of, some_number, staged_fault, to_stage_of}
+use Rattle.nl_calls_steps.specs.Calls.{counts_of}
+use Rattle.nl_volume_stage.specs.Serving.{some_number, staged_fault, to_stage_of}
 use Rattle.nl_volume_stage.specs.StagedPages.{EndsTried}
 use Rattle.nl_volume_stage.specs.Staging.{IsNextTag, PassesOn, StagesOn}
 use Rattle.nl_volume_stage.specs.Turns.{AreCounts, FaultsStay}

@@ -18,7 +18,7 @@ use Rattle.nl_spec_crashes.proofs.Along.{call_goes_along}
 use Rattle.nl_turns.specs.History.{IsKnown, IsSyncInRange, Opening, call_at, effects, fault_of, is_effect, is_sync, marked_calls, opening_counts, sync_of, syncs_of}
 use Rattle.nl_turns.specs.declared.entry.Entry.{Entry}
 use Rattle.nl_turns.specs.declared.entry.SyncMark.{SyncMark}
-use Rattle.nl_volume_stage.specs.Serving.{counts_of}
+use Rattle.nl_calls_steps.specs.Calls.{counts_of}
 use Rattle.nl_volume_stage.specs.Standing.{FaultReplyHasCause, MomentsRise, NumbersDiffer, Serves, RepresentsHistory, run_of}
 use Rattle.nl_volume_stage.specs.Turns.{CallsCore, FaultsStay, PreservesCore, IsQuiet}
 use Rattle.nl_volume_stage.proofs.Causes.{first_failed, first_sum, later_then, still_cause, still_failed}

@@ -1,13 +1,9 @@
 -- What a volume shows to those that take turns with it.
 use Rattle.std.specs.Prelude.{ℕ, ◌-◌, ◌==◌, if◌then◌else◌, List, length, Option, Some, None}
-use Rattle.nl_tree.specs.Causes.{Counts, FaultState}
+use Rattle.nl_tree.specs.Causes.{FaultState}
 use Rattle.nl_flight.specs.Flight.{InFlight, of_worker}
 use Rattle.nl_iface.specs.declared.counts.Counts.{Ghosts}
 use Rattle.nl_core.specs.declared.state.Core.{Core}
-
--- the clock and the counts of faults of the medium
-abbrev pub counts_of : {D : Type 0} → Ghosts D → D → Counts
-counts_of g s = record { clock = g.clock s; read_faults = g.read_faults s; write_faults = g.write_faults s }
 
 -- a number, where it is not 0
 abbrev pub some_number : ℕ → Option ℕ

@@ -19,12 +19,12 @@ use Rattle.nl_core.specs.Core.{running_of}
 use Rattle.nl_core.specs.Goes.{PreservesVolume}
 use Rattle.nl_core.specs.Trees.{CoreRepresentsTree}
 use Rattle.nl_core.specs.declared.state.Core.{Core}
-use Rattle.nl_calls_steps.specs.Calls.{OtherLinesStay}
+use Rattle.nl_calls_steps.specs.Calls.{OtherLinesStay, counts_of}
 use Rattle.nl_calls_steps.specs.Finding.{IsSomeFile}
 use Rattle.nl_turns.specs.History.{Opening}
 use Rattle.nl_turns.specs.Served.{IsLineOf, is_fault, is_staged}
 use Rattle.nl_turns.specs.declared.entry.Entry.{Entry}
-use Rattle.nl_volume_stage.specs.Serving.{counts_of, staged_fault, to_stage_of}
+use Rattle.nl_volume_stage.specs.Serving.{staged_fault, to_stage_of}
 use Rattle.nl_volume_stage.specs.Standing.{RepresentsHistory, first_whole}
 use Rattle.nl_volume_stage.specs.declared.next.Next.{Next}
 use Rattle.nl_volume_stage.specs.declared.next.Next.TheVariants as next

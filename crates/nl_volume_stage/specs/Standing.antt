@@ -21,7 +21,7 @@ use Rattle.nl_calls_bytes.specs.Ranges.{from_of}
 use Rattle.nl_turns.specs.History.{IsKnown, Opening, SyncsInRange, call_of, effects, fault_of, marked_calls, opening_counts, syncs_of}
 use Rattle.nl_turns.specs.Served.{IsLineOf}
 use Rattle.nl_turns.specs.declared.entry.Entry.{Entry}
-use Rattle.nl_volume_stage.specs.Serving.{counts_of}
+use Rattle.nl_calls_steps.specs.Calls.{counts_of}
 
 -- the run of the calls that had their effects, from the opening on
 abbrev pub run_of : Opening → List Entry → Run

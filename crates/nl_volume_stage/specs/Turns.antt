@@ -11,7 +11,7 @@ use Rattle.nl_turns.specs.History.{Opening}
 use Rattle.nl_turns.specs.declared.entry.Entry.{Entry}
 use Rattle.nl_turns.specs.declared.entry.FaultMark.TheVariants.{NoFault}
 use Rattle.nl_turns.specs.declared.entry.SyncMark.TheVariants.{NoSync}
-use Rattle.nl_volume_stage.specs.Serving.{counts_of}
+use Rattle.nl_calls_steps.specs.Calls.{counts_of}
 use Rattle.nl_volume_stage.specs.Standing.{FlightIsOfLines}
 
 -- no effect, no fault and no sync

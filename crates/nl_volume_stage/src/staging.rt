@@ -1,4 +1,6 @@
 ghost use Rattle.std.specs.Prelude.{◌≡◌, ◌≢◌, ◌⊎◌, ◌↔◌, ◌≤◌, ◌<◌, ◌^◌, length};
+ghost use Rattle.nl_core.specs.Core.{names_of};
+ghost use Rattle.nl_core.specs.LastCommit.{KeepsCommit, KeepsRoom, LeavesMedium};
 ghost use Rattle.nl_core.specs.Programming.{HasLineOrNone};
 ghost use Rattle.nl_flight.specs.Flight.{of_worker};
 ghost use Rattle.nl_volume_stage.specs.StagedPages.{EndsTried, IsTagOfCall, KeepsLinePages, LeavesInFlight, StaysWritable};
@@ -15,6 +17,8 @@ use nl_tree::{Call, Stage};
 /// Stages one whole page of a line ahead of its effect: it is programmed, and in flight from now on. `Stopped` comes exactly where the
 /// volume is read-only or worn. Pages in flight of another line of the worker are freed first. The page is one of the file to which the
 /// path of the call leads now. `Staged`, `Whole` and `Lost` come only where no write failed. The page given has bytes of the call then.
+/// Where it is stopped or none is left, the medium and the last commit stay as they are. Nothing is committed where the device has room
+/// for a page.
 pub fn stage_line<D: MovingPages>(
     core: &mut Core<D>,
     worker: u8,
@@ -30,6 +34,8 @@ pub fn stage_line<D: MovingPages>(
     ensures stopped { result ≡ Stage.Stopped ↔ (core.old.stopped ≢ 0) ⊎ (2 ^ 62 ≤ D.next_stamp core.old.device) }
     ensures in_flight { LeavesInFlight D.Counts worker line (IsTagOfCall D.Counts core.old call.now) core.old core.new result }
     ensures unfailed { result ≢ Stage.Fault → result ≢ Stage.Stopped → StaysWritable D.Counts core.old core.new }
+    ensures kept { (result ≡ Stage.Stopped) ⊎ (result ≡ Stage.Whole) → LeavesMedium D.Counts core.old core.new }
+    ensures commit { 0 < (names_of D.Counts core.old).space.room → KeepsCommit core.old core.new }
 {
     leave_other(core, worker, line);
     if core.stopped != 0 || is_worn(core) {
@@ -57,6 +63,8 @@ fn stage_now<D: MovingPages>(
     ensures not_stopped { result ≢ Stage.Stopped }
     ensures in_flight { LeavesInFlight D.Counts worker line (IsTagOfCall D.Counts core.old call.now) core.old core.new result }
     ensures unfailed { result ≢ Stage.Fault → StaysWritable D.Counts core.old core.new }
+    ensures kept { result ≡ Stage.Whole → LeavesMedium D.Counts core.old core.new }
+    ensures commit { 0 < (names_of D.Counts core.old).space.room → KeepsCommit core.old core.new }
 {
     device_stands(&core.device);
     let place = flying(&core.flight, worker);
@@ -95,6 +103,7 @@ fn stage_page<D: MovingPages>(
     ensures not_whole { result ≢ Stage.Whole }
     ensures in_flight { LeavesInFlight D.Counts worker line (λ owner. owner ≡ tag) core.old core.new result }
     ensures unfailed { result ≢ Stage.Fault → StaysWritable D.Counts core.old core.new }
+    ensures commit { 0 < (names_of D.Counts core.old).space.room → KeepsCommit core.old core.new }
 {
     device_stands(&core.device);
     fill_page(page, call, tag.index);
@@ -128,7 +137,7 @@ fn end_tried<D: MovingPages>(core: &mut Core<D>, worker: u8, line: u32, answer: 
     answer
 }
 
-/// Frees pages in flight of another line of the worker.
+/// Frees pages in flight of another line of the worker. The medium and the last commit stay as they are.
 pub fn leave_other<D: MovingPages>(core: &mut Core<D>, worker: u8, line: u32)
     requires stands { RepresentsSome D.Counts core.old }
     requires known { worker < 8 }
@@ -140,6 +149,8 @@ pub fn leave_other<D: MovingPages>(core: &mut Core<D>, worker: u8, line: u32)
     ensures stamp { D.next_stamp core.new.device ≡ D.next_stamp core.old.device }
     ensures pages { KeepsLinePages worker line core.old.flight core.new.flight }
     ensures write_faults { D.write_faults core.new.device ≡ D.write_faults core.old.device }
+    ensures kept { LeavesMedium D.Counts core.old core.new }
+    ensures room { KeepsRoom D.Counts 0 core.old core.new }
 {
     let now = core.flight.line(worker);
     if now != 0 && now != line {

@@ -8,6 +8,9 @@ use Rattle.nl_calls.proofs.Answered.{answer_after, cleans_after}
 use Rattle.nl_calls.proofs.Counted.{goes_counted}
 use Rattle.nl_calls.proofs.Ended.{ends_dropped}
 use Rattle.nl_calls.proofs.Tried.{not_writing}
+use Rattle.nl_core.proofs.LastCommits.{drops_leaves, drops_room, leaves_then}
+use Rattle.nl_calls.proofs.Uncommitted.{needs_then}
+use Rattle.std.proofs.lemmas.Bool.{false≢true}
 use Rattle.nl_calls.proofs.calls.answer_call.Goals as goal
 
 pub answer_other-requires : goal.answer_other-requires
@@ -51,6 +54,8 @@ returns-in_default g c =
       core = a.ensures.core;
       answers = answer_after G c.args.call.now 0 u v a.new.core e.goes c.args.worker a.result.reply a.new.out a.result.files (ends_dropped c.args.worker u.flight v.flight known e.dropped.flight).others a.ensures.answers;
       cleaned = λ is done. cleans_after G c.args.call.now 0 u v a.new.core e.goes g.D.MovingPages (a.ensures.cleaned is done);
+      commit = needs_then G c.args.call.now u v a.new.core (drops_room G c.args.worker u v e.dropped) a.ensures.commit;
+      leaves = λ only. leaves_then G u v a.new.core (drops_leaves G c.args.worker u v e.dropped) (a.ensures.leaves only);
     }
 
 pub returns-in-Write-clause-answers : goal.returns-in-Write-clause-answers
@@ -63,3 +68,11 @@ write-requires-clause-can g c =
     let r = c.requires in
     let changes : IsTrue (is_changing c.args.call.now) = ⊎_elim (λ w. ap is_changing w.3) (λ f. ap is_changing f.4) c.in-Write.is in
     record { writes = r.may.writes changes; runs = r.runs; known = r.known; some = r.some; has_line = r.line; files_are = r.files; staged = r.staged; few = r.others }
+
+pub returns-in-Write-clause-commit : goal.returns-in-Write-clause-commit
+returns-in-Write-clause-commit g c = c.write.ensures.commit
+
+pub returns-in-Write-clause-leaves : goal.returns-in-Write-clause-leaves
+returns-in-Write-clause-leaves g c only =
+    let changes : IsTrue (is_changing c.args.call.now) = ⊎_elim (λ w. ap is_changing w.3) (λ f. ap is_changing f.4) c.in-Write.is in
+    absurd (false≢true (sym only ∙ changes))

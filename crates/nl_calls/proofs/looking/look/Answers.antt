@@ -4,6 +4,7 @@ use Rattle.nl_core.specs.declared.state.Core.{Core}
 use Rattle.nl_calls.proofs.Ended.{ends_same}
 use Rattle.nl_calls_steps.proofs.LeavesTree.{reads_go}
 use Rattle.nl_calls.proofs.Tried.{fails, looked, meets_fault}
+use Rattle.nl_calls_steps.proofs.LastCommitOn.{reads_leaves}
 use Rattle.nl_calls.proofs.looking.look.Goals as goal
 
 pub returns-in-Replied-clause-answers : goal.returns-in-Replied-clause-answers
@@ -34,3 +35,12 @@ returns-in-Fault-clause-answers g c =
     fails G c.args.worker c.args.call.now 0 u v c.args.files e.core (reads_go G u v c.requires.core c.device_stands.ensures.volume e.core.formed c.device_stands-2.ensures.pages e.same) c.pages_stay_as_many.ensures c.requires.files
     (ends_same c.args.worker u.flight v.flight (ap (λ (x : Core g.row.D.Denot). x.flight) e.same.others) c.requires.idle) c.look_call-looked.new.out (e.out refl)
     c.failed-reply.result c.failed-reply.ensures (inl (e.faults.cause refl))
+
+pub returns-in-Replied-clause-leaves : goal.returns-in-Replied-clause-leaves
+returns-in-Replied-clause-leaves g c = reads_leaves g.D.Counts c.args.core.now c.look_call-looked.new.core c.look_call-looked.ensures.same
+
+pub returns-in-Lost-clause-leaves : goal.returns-in-Lost-clause-leaves
+returns-in-Lost-clause-leaves g c = reads_leaves g.D.Counts c.args.core.now c.look_call-looked.new.core c.look_call-looked.ensures.same
+
+pub returns-in-Fault-clause-leaves : goal.returns-in-Fault-clause-leaves
+returns-in-Fault-clause-leaves g c = reads_leaves g.D.Counts c.args.core.now c.look_call-looked.new.core c.look_call-looked.ensures.same

@@ -6,6 +6,7 @@ use Rattle.nl_calls.proofs.Answered.{answer_after}
 use Rattle.nl_calls.proofs.Counted.{goes_counted}
 use Rattle.nl_calls.proofs.Ended.{ends_same}
 use Rattle.nl_calls.proofs.Tried.{fails, meets_fault}
+use Rattle.nl_calls.proofs.Uncommitted.{names_dirty}
 use Rattle.nl_calls.proofs.naming.name.Goals as goal
 
 pub name_now-requires-clause-room : goal.name_now-requires-clause-room
@@ -55,3 +56,27 @@ returns-in-Fault-clause-answers g c =
     let e = c.in-Fault.ensures in
     fails G c.args.worker c.args.call.now _ u v c.args.files e.core e.goes c.pages_stay_as_many.ensures c.requires.files (ends_same c.args.worker u.flight v.flight e.commits.same_flight c.requires.idle) _ refl
     c.failed.result c.failed.ensures (e.faults refl)
+
+pub returns-then-dirty-le-FEW-clause-commit : goal.returns-then-dirty-le-FEW-clause-commit
+returns-then-dirty-le-FEW-clause-commit g c needs = c.name_now.ensures.commit
+
+pub returns-in-Done-clause-commit : goal.returns-in-Done-clause-commit
+returns-in-Done-clause-commit g c needs =
+    let room = names_dirty g.D.Counts c.args.core.now c.args.call.now c.requires.of_names needs in
+    let count = c.dirty.ensures in
+    let high = c.if-dirty-le-FEW.false in
+    absurd (let no : ⊥ = omega (arith, room, count, high) in no)
+
+pub returns-in-Lost-clause-commit : goal.returns-in-Lost-clause-commit
+returns-in-Lost-clause-commit g c needs =
+    let room = names_dirty g.D.Counts c.args.core.now c.args.call.now c.requires.of_names needs in
+    let count = c.dirty.ensures in
+    let high = c.if-dirty-le-FEW.false in
+    absurd (let no : ⊥ = omega (arith, room, count, high) in no)
+
+pub returns-in-Fault-clause-commit : goal.returns-in-Fault-clause-commit
+returns-in-Fault-clause-commit g c needs =
+    let room = names_dirty g.D.Counts c.args.core.now c.args.call.now c.requires.of_names needs in
+    let count = c.dirty.ensures in
+    let high = c.if-dirty-le-FEW.false in
+    absurd (let no : ⊥ = omega (arith, room, count, high) in no)

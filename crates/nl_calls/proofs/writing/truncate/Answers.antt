@@ -10,6 +10,7 @@ use Rattle.nl_calls.proofs.Counted.{goes_counted}
 use Rattle.nl_calls.proofs.Ended.{ends_then}
 use Rattle.nl_calls.proofs.Steps.{done_answers, truncate_bytes}
 use Rattle.nl_calls.proofs.Tried.{fails, meets_fault, takes_effect, written_done, written_no}
+use Rattle.nl_core.proofs.LastCommits.{commit_then}
 use Rattle.nl_calls.proofs.writing.truncate.Goals as goal
 
 pub returns-in-Done-clause-answers : goal.returns-in-Done-clause-answers
@@ -20,7 +21,7 @@ returns-in-Done-clause-answers g c =
     let e = c.in-Done.ensures in
     let t = e.done.0 in
     written_done G c.args.worker (Truncate c.args.path.now c.args.size) u v c.in-Done.files refl (λ e. cc e) e.done.1 (record { idle = t.ended; others = e.others }) Done [] refl refl
-    (takes_effect G _ c.args.worker (Truncate c.args.path.now c.args.size) u v t)
+    (takes_effect G _ c.args.worker (Truncate c.args.path.now c.args.size) u v (λ names. names) t)
     (λ tells page_of_stamp tree runs. done_answers (step (G.shape u.device) tree (Truncate c.args.path.now c.args.size)) (e.answer tells page_of_stamp tree runs) (truncate_bytes (G.shape u.device) tree c.args.path.now c.args.size))
 
 pub returns-in-No-clause-answers : goal.returns-in-No-clause-answers
@@ -59,3 +60,18 @@ returns-in-Fault-clause-answers g c =
     let x = fails G c.args.worker (Truncate c.args.path.now c.args.size) _ u w c.args.files d.core (goes_then G u v w _ 0 e.undone.0 d.goes) c.pages_stay_as_many.ensures c.requires.files (ends_then c.args.worker u.flight v.flight w.flight e.others d.line) [] refl
     c.undone-in-Fault.result.reply (d.answer.0 ∙ (c.failed-reply.ensures ∙ ap (λ n. FaultAnswer (Eio n)) (sym d.faults))) (rose_on G u v w d.goes e.early) in
     subst (λ n. AnswersCall G c.args.worker (Truncate c.args.path.now c.args.size) u w c.undone-in-Fault.result.reply [] n) (sym d.answer.1) x
+
+pub returns-in-Done-clause-commit : goal.returns-in-Done-clause-commit
+returns-in-Done-clause-commit g c = c.truncate_call-written.ensures.commit
+
+pub returns-in-No-clause-commit : goal.returns-in-No-clause-commit
+returns-in-No-clause-commit g c room =
+    commit_then c.args.core.now c.truncate_call-written.new.core c.undone.new.core (c.truncate_call-written.ensures.commit room) c.undone.ensures.commit
+
+pub returns-in-Lost-clause-commit : goal.returns-in-Lost-clause-commit
+returns-in-Lost-clause-commit g c room =
+    commit_then c.args.core.now c.truncate_call-written.new.core c.undone-in-Lost.new.core (c.truncate_call-written.ensures.commit room) c.undone-in-Lost.ensures.commit
+
+pub returns-in-Fault-clause-commit : goal.returns-in-Fault-clause-commit
+returns-in-Fault-clause-commit g c room =
+    commit_then c.args.core.now c.truncate_call-written.new.core c.undone-in-Fault.new.core (c.truncate_call-written.ensures.commit room) c.undone-in-Fault.ensures.commit

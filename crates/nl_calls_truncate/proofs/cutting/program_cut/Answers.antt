@@ -10,6 +10,8 @@ use Rattle.nl_calls_steps.proofs.LeavesTree.{reads_go}
 use Rattle.nl_calls_truncate.proofs.CutFlight.{others_page}
 use Rattle.nl_calls_truncate.proofs.CutPut.{can_put}
 use Rattle.nl_calls_truncate.proofs.CutReads.{flight_on, goes_read, others_kept, others_read}
+use Rattle.nl_core.proofs.LastCommits.{room_more}
+use Rattle.nl_calls_steps.proofs.LastCommitOn.{reads_at_once, reads_room}
 use Rattle.nl_calls_truncate.proofs.cutting.program_cut.Goals as goal
 
 pub make_cut-requires-clause-size : goal.make_cut-requires-clause-size
@@ -109,3 +111,22 @@ pub returns-in-Fault-clause-early : goal.returns-in-Fault-clause-early
 returns-in-Fault-clause-early g c =
     let G = g.D.Counts in
     early-then G c.args.core.now c.make_cut.new.core c.program-answer.new.self (Some stop.Fault) c.make_cut.ensures.same (c.program-answer.ensures.faults c.in-Fault.is)
+
+pub returns-in_err-make_cut-clause-at_once : goal.returns-in_err-make_cut-clause-at_once
+returns-in_err-make_cut-clause-at_once g c has =
+    let G = g.D.Counts in
+    let u = c.args.core.now in
+    let v = c.make_cut.new.core in
+    room_more G 0 1 u v (omega arith) (reads_room G u v c.make_cut.ensures.same)
+
+pub returns-in-InFlight-clause-at_once : goal.returns-in-InFlight-clause-at_once
+returns-in-InFlight-clause-at_once g c =
+    reads_at_once g.D.Counts c.args.core.now c.make_cut.new.core c.program-answer.new.self c.make_cut.ensures.same c.program-answer.ensures.at_once
+
+pub returns-in-Lost-clause-at_once : goal.returns-in-Lost-clause-at_once
+returns-in-Lost-clause-at_once g c =
+    reads_at_once g.D.Counts c.args.core.now c.make_cut.new.core c.program-answer.new.self c.make_cut.ensures.same c.program-answer.ensures.at_once
+
+pub returns-in-Fault-clause-at_once : goal.returns-in-Fault-clause-at_once
+returns-in-Fault-clause-at_once g c =
+    reads_at_once g.D.Counts c.args.core.now c.make_cut.new.core c.program-answer.new.self c.make_cut.ensures.same c.program-answer.ensures.at_once

@@ -9,6 +9,8 @@ use Rattle.nl_calls_steps.proofs.Early.{early-then}
 use Rattle.nl_calls_steps.proofs.LeavesTree.{reads_go}
 use Rattle.nl_calls_steps.proofs.OnlyReads.{file-on}
 use Rattle.nl_calls_steps.proofs.ReadCores.{reads-then}
+use Rattle.nl_core.proofs.LastCommits.{room_more}
+use Rattle.nl_calls_steps.proofs.LastCommitOn.{reads_at_once, reads_room}
 use Rattle.nl_calls_truncate.proofs.cutting.put_cut.Goals as goal
 use Rattle.nl_calls_truncate.proofs.cutting.put_cut.Goals.{then-rec-size-via-then-rec-size, then-rec-size-via-else-rec-size+then-size-eq0}
 
@@ -118,3 +120,41 @@ returns-clause-early g c =
     let w = c.has_hole.new.core in
     let e = c.open_file.ensures in
     early-then G u w c.program_cut.new.core (stop_of c.program_cut.result) (reads-then G u c.open_file.new.core e.volume e.same w c.has_hole.ensures.same) c.program_cut.ensures.early
+
+pub returns-in_err-rec-clause-at_once : goal.returns-in_err-rec-clause-at_once
+returns-in_err-rec-clause-at_once g c has =
+    let G = g.D.Counts in
+    let u = c.args.core.now in
+    let v = c.open_file.new.core in
+    room_more G 0 1 u v (omega arith) (reads_room G u v c.open_file.ensures.same)
+
+pub returns-then-rec-size-clause-at_once : goal.returns-then-rec-size-clause-at_once
+returns-then-rec-size-clause-at_once g c has =
+    let G = g.D.Counts in
+    let u = c.args.core.now in
+    let v = c.open_file.new.core in
+    room_more G 0 1 u v (omega arith) (reads_room G u v c.open_file.ensures.same)
+
+pub returns-in_err-has_hole-clause-at_once : goal.returns-in_err-has_hole-clause-at_once
+returns-in_err-has_hole-clause-at_once g c has =
+    let G = g.D.Counts in
+    let u = c.args.core.now in
+    let v = c.open_file.new.core in
+    let w = c.has_hole.new.core in
+    room_more G 0 1 u w (omega arith) (reads_room G u w (reads-then G u v c.open_file.ensures.volume c.open_file.ensures.same w c.has_hole.ensures.same))
+
+pub returns-then-branch-clause-at_once : goal.returns-then-branch-clause-at_once
+returns-then-branch-clause-at_once g c has =
+    let G = g.D.Counts in
+    let u = c.args.core.now in
+    let v = c.open_file.new.core in
+    let w = c.has_hole.new.core in
+    room_more G 0 1 u w (omega arith) (reads_room G u w (reads-then G u v c.open_file.ensures.volume c.open_file.ensures.same w c.has_hole.ensures.same))
+
+pub returns-clause-at_once : goal.returns-clause-at_once
+returns-clause-at_once g c =
+    let G = g.D.Counts in
+    let u = c.args.core.now in
+    let v = c.open_file.new.core in
+    let w = c.has_hole.new.core in
+    reads_at_once G u w c.program_cut.new.core (reads-then G u v c.open_file.ensures.volume c.open_file.ensures.same w c.has_hole.ensures.same) c.program_cut.ensures.at_once

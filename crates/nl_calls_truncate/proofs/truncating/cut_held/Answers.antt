@@ -5,6 +5,7 @@ use Rattle.nl_calls_steps.proofs.FileInstalled.{few_await}
 use Rattle.nl_calls_truncate.proofs.CutFlight.{carried_less}
 use Rattle.nl_calls_truncate.proofs.CutHolders.{cut_as_many}
 use Rattle.nl_calls_truncate.proofs.CutReads.{uncut_refused}
+use Rattle.nl_calls_steps.proofs.LastCommitOn.{steps_commit}
 use Rattle.nl_calls_truncate.proofs.truncating.cut_held.Goals as goal
 
 pub pages_of-landing-requires-clause-one : goal.pages_of-landing-requires-clause-one
@@ -61,3 +62,14 @@ returns-in-Lost-clause-uncut g c =
 
 pub returns-in-Lost-clause-early : goal.returns-in-Lost-clause-early
 returns-in-Lost-clause-early g c = (c.in-Lost.ensures.lost.1, λ tells. c.in-Lost.ensures.told tells tt)
+
+-- ---- nothing is committed
+
+pub returns-in-Done-clause-commit : goal.returns-in-Done-clause-commit
+returns-in-Done-clause-commit g c = steps_commit g.D.Counts c.args.core.now c.cut_file.new.core (c.in-Done.ensures.cut refl).steps
+
+pub returns-in-Fault-clause-commit : goal.returns-in-Fault-clause-commit
+returns-in-Fault-clause-commit g c = steps_commit g.D.Counts c.args.core.now c.cut_file.new.core (c.in-Fault.ensures.refused (λ e. cc e)).steps
+
+pub returns-in-Lost-clause-commit : goal.returns-in-Lost-clause-commit
+returns-in-Lost-clause-commit g c = steps_commit g.D.Counts c.args.core.now c.cut_file.new.core (c.in-Lost.ensures.refused (λ e. cc e)).steps

@@ -11,6 +11,8 @@ use Rattle.nl_calls_steps.proofs.OnlyReads.{file-on}
 use Rattle.nl_calls_steps.proofs.ReadCores.{reads-then}
 use Rattle.nl_calls_truncate.specs.Truncating.{IsCutInTree, IsUncut}
 use Rattle.nl_calls_truncate.proofs.CutReads.{cut_then, err_weaker, partial_read, room_for, uncut_read, uncut_then}
+use Rattle.nl_core.proofs.LastCommits.{commit_then}
+use Rattle.nl_calls_steps.proofs.LastCommitOn.{reads_commit}
 use Rattle.nl_calls_truncate.proofs.truncating.cut_now.Goals as goal
 
 pub open_file-requires-clause-file : goal.open_file-requires-clause-file
@@ -123,3 +125,24 @@ returns-clause-early g c =
     let w = c.hold_end.new.core in
     let e = c.open_file.ensures in
     early-then G u w c.cut_held.new.core (stop_of c.cut_held.result) (reads-then G u c.open_file.new.core e.volume e.same w c.hold_end.ensures.same) c.cut_held.ensures.early
+
+-- ---- nothing is committed
+
+pub returns-in_err-rec-clause-commit : goal.returns-in_err-rec-clause-commit
+returns-in_err-rec-clause-commit g c = reads_commit g.D.Counts c.args.core.now c.open_file.new.core c.open_file.ensures.same
+
+pub returns-in_err-hold_end-clause-commit : goal.returns-in_err-hold_end-clause-commit
+returns-in_err-hold_end-clause-commit g c =
+    let G = g.D.Counts in
+    let u = c.args.core.now in
+    let v = c.open_file.new.core in
+    let w = c.hold_end.new.core in
+    reads_commit G u w (reads-then G u v c.open_file.ensures.volume c.open_file.ensures.same w c.hold_end.ensures.same)
+
+pub returns-clause-commit : goal.returns-clause-commit
+returns-clause-commit g c =
+    let G = g.D.Counts in
+    let u = c.args.core.now in
+    let v = c.open_file.new.core in
+    let w = c.hold_end.new.core in
+    commit_then u w c.cut_held.new.core (reads_commit G u w (reads-then G u v c.open_file.ensures.volume c.open_file.ensures.same w c.hold_end.ensures.same)) c.cut_held.ensures.commit

@@ -6,6 +6,7 @@ use Rattle.nl_calls_truncate.proofs.CutReads.{can_on, flight_on}
 use Rattle.nl_calls_steps.proofs.Going.{files_on, others_same}
 use Rattle.nl_calls_steps.proofs.LeavesTree.{reads_go}
 use Rattle.nl_calls_steps.proofs.OnlyReads.{file-on, same-nodes}
+use Rattle.nl_calls_steps.proofs.LastCommitOn.{reads_commit, reads_through}
 use Rattle.nl_calls_truncate.proofs.truncating.truncate_alone.Goals as goal
 
 pub truncate_found-requires-clause-stamp : goal.truncate_found-requires-clause-stamp
@@ -51,17 +52,17 @@ truncate_found-requires-clause-files g c =
     let v = c.find_there.new.core in
     files_on G 0 u v (reads_go G u v c.requires.core c.find_there.ensures.volume c.find_there.ensures.core.formed c.find_there.ensures.stores c.find_there.ensures.same) c.args.files c.requires.files
 
-pub returns-in-Ok-File : goal.returns-in-Ok-File
-returns-in-Ok-File g c =
+pub returns-in-Ok-File-clause-truncates : goal.returns-in-Ok-File-clause-truncates
+returns-in-Ok-File-clause-truncates g c =
     let G = g.D.Counts in
     let u = c.args.core.now in
     let v = c.find_there.new.core in
     let same = c.find_there.ensures.same in
     truncates_before G u v c.truncate_found.new.core c.args.worker c.args.path.now c.args.size (reads_go G u v c.requires.core c.find_there.ensures.volume c.find_there.ensures.core.formed c.find_there.ensures.stores same)
-    (others_same c.args.worker u.flight v.flight (flight_on G u v same)) c.truncate_found.result c.truncate_found.ensures
+    (others_same c.args.worker u.flight v.flight (flight_on G u v same)) c.truncate_found.result c.truncate_found.ensures.truncates
 
-pub returns-in-Ok-No : goal.returns-in-Ok-No
-returns-in-Ok-No g c =
+pub returns-in-Ok-No-clause-truncates : goal.returns-in-Ok-No-clause-truncates
+returns-in-Ok-No-clause-truncates g c =
     let G = g.D.Counts in
     let u = c.args.core.now in
     let v = c.find_there.new.core in
@@ -70,8 +71,8 @@ returns-in-Ok-No g c =
     (others_same c.args.worker u.flight v.flight (flight_on G u v same)) c.in-Ok-No.refusal
     (path_answers G u c.args.path.now c.args.size c.in-Ok-No.refusal (rw c.in-Ok-No.field-0-is at c.in-Ok-No.ensures.found))
 
-pub returns-in-Err-Fault : goal.returns-in-Err-Fault
-returns-in-Err-Fault g c =
+pub returns-in-Err-Fault-clause-truncates : goal.returns-in-Err-Fault-clause-truncates
+returns-in-Err-Fault-clause-truncates g c =
     let G = g.D.Counts in
     let u = c.args.core.now in
     let v = c.find_there.new.core in
@@ -79,11 +80,26 @@ returns-in-Err-Fault g c =
     fault_ends G u v c.args.worker c.args.path.now c.args.size 0 (omega arith) c.find_there.ensures.core (reads_go G u v c.requires.core c.find_there.ensures.volume c.find_there.ensures.core.formed c.find_there.ensures.stores same)
     (others_same c.args.worker u.flight v.flight (flight_on G u v same)) (rw c.in-Err-Fault.field-0-is at c.in-Err-Fault.ensures.early)
 
-pub returns-in-Err-Lost : goal.returns-in-Err-Lost
-returns-in-Err-Lost g c =
+pub returns-in-Err-Lost-clause-truncates : goal.returns-in-Err-Lost-clause-truncates
+returns-in-Err-Lost-clause-truncates g c =
     let G = g.D.Counts in
     let u = c.args.core.now in
     let v = c.find_there.new.core in
     let same = c.find_there.ensures.same in
     lost_ends G u v c.args.worker c.args.path.now c.args.size 0 (omega arith) c.find_there.ensures.core (reads_go G u v c.requires.core c.find_there.ensures.volume c.find_there.ensures.core.formed c.find_there.ensures.stores same)
     (others_same c.args.worker u.flight v.flight (flight_on G u v same)) c.in-Err-Lost.wanted c.in-Err-Lost.found (rw c.in-Err-Lost.field-0-is at c.in-Err-Lost.ensures.early)
+
+-- ---- nothing is committed
+
+pub returns-in-Ok-File-clause-commit : goal.returns-in-Ok-File-clause-commit
+returns-in-Ok-File-clause-commit g c =
+    reads_through g.D.Counts c.args.core.now c.find_there.new.core c.find_there.ensures.same 4 1 c.truncate_found.new.core c.truncate_found.ensures.commit
+
+pub returns-in-Ok-No-clause-commit : goal.returns-in-Ok-No-clause-commit
+returns-in-Ok-No-clause-commit g c room = reads_commit g.D.Counts c.args.core.now c.find_there.new.core c.find_there.ensures.same
+
+pub returns-in-Err-Fault-clause-commit : goal.returns-in-Err-Fault-clause-commit
+returns-in-Err-Fault-clause-commit g c room = reads_commit g.D.Counts c.args.core.now c.find_there.new.core c.find_there.ensures.same
+
+pub returns-in-Err-Lost-clause-commit : goal.returns-in-Err-Lost-clause-commit
+returns-in-Err-Lost-clause-commit g c room = reads_commit g.D.Counts c.args.core.now c.find_there.new.core c.find_there.ensures.same

@@ -6,6 +6,7 @@ use Rattle.nl_core.specs.Core.{IsCore}
 use Rattle.nl_core.specs.Dropping.{DropsLine}
 use Rattle.nl_core.specs.Goes.{PreservesVolume}
 use Rattle.nl_core.specs.declared.state.Core.{Core}
+use Rattle.nl_core.proofs.LastCommits.{commit_through, drops_room}
 use Rattle.nl_calls_steps.specs.Calls.{OtherLinesStay}
 use Rattle.nl_calls_steps.specs.declared.answer.Written.{Written}
 use Rattle.nl_calls_steps.proofs.WorkerLines.{others_dropped, own_dropped}
@@ -49,7 +50,7 @@ returns g c =
     let u = c.args.core.now in
     let w = c.truncate_alone.new.core in
     let d = c.drop_line.ensures in
-    let t = whole G u c.drop_line.new.self c.args.worker c.requires.core c.requires.known d.dropped w c.args.path.now c.args.size d.goes c.truncate_alone.result c.truncate_alone.ensures in
+    let t = whole G u c.drop_line.new.self c.args.worker c.requires.core c.requires.known d.dropped w c.args.path.now c.args.size d.goes c.truncate_alone.result c.truncate_alone.ensures.truncates in
     record {
       core = t.core;
       done = t.done;
@@ -57,4 +58,5 @@ returns g c =
       answer = t.answers;
       others = t.others;
       early = t.early;
+      commit = commit_through G 4 1 u c.drop_line.new.self w (drops_room G c.args.worker u c.drop_line.new.self d.dropped) c.truncate_alone.ensures.commit;
     }

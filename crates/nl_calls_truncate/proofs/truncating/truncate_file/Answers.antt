@@ -8,6 +8,7 @@ use Rattle.nl_calls_truncate.proofs.CutPages.{can_cut_on}
 use Rattle.nl_calls_truncate.proofs.CutReads.{err_weaker, others_either, some_on}
 use Rattle.nl_calls_steps.proofs.Early.{within-early}
 use Rattle.nl_calls_steps.proofs.Going.{files_on, others_same, others_then}
+use Rattle.nl_calls_truncate.proofs.Uncommitted.{cut_commit, made_commit, put_commit}
 use Rattle.nl_calls_truncate.proofs.truncating.truncate_file.Goals as goal
 
 pub returns-in_err-put_cut-clause-uncut : goal.returns-in_err-put_cut-clause-uncut
@@ -121,3 +122,17 @@ returns-clause-early g c =
     let x = c.cut_now.new.core in
     let goes = goes_then G u v w (2 ^ 30) 512 c.put_cut.ensures.goes c.make_room.ensures.goes in
     within-early G u w x x (stop_of c.cut_now.result) goes.reads goes.writes (omega arith) (omega arith) c.cut_now.ensures.early
+
+-- ---- nothing is committed
+
+pub returns-in_err-put_cut-clause-commit : goal.returns-in_err-put_cut-clause-commit
+returns-in_err-put_cut-clause-commit g c = put_commit g.D.Counts c.args.core.now c.put_cut.new.core c.put_cut.ensures.at_once
+
+pub returns-then-core-ne0-clause-commit : goal.returns-then-core-ne0-clause-commit
+returns-then-core-ne0-clause-commit g c = put_commit g.D.Counts c.args.core.now c.put_cut.new.core c.put_cut.ensures.at_once
+
+pub returns-in_err-make_room-clause-commit : goal.returns-in_err-make_room-clause-commit
+returns-in_err-make_room-clause-commit g c has = made_commit g.D.Counts c.args.core.now c.put_cut.new.core c.put_cut.ensures.at_once has c.make_room.new.core c.make_room.ensures.kept
+
+pub returns-clause-commit : goal.returns-clause-commit
+returns-clause-commit g c has = cut_commit g.D.Counts c.args.core.now c.put_cut.new.core c.put_cut.ensures.at_once has c.make_room.new.core c.make_room.ensures.kept c.cut_now.new.core c.cut_now.ensures.commit

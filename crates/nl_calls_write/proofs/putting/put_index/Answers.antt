@@ -2,6 +2,7 @@ use Rattle.std.proofs.Common.{refl, sym, ◌∙◌, ◌^◌}
 use Rattle.nl_calls_steps.specs.Lines.{worker_pages}
 use Rattle.nl_calls_bytes.proofs.Places.{has_place}
 use Rattle.nl_calls_write.proofs.OnePage.{has_index, index_here, on_ok, puts_none}
+use Rattle.nl_core.proofs.LastCommits.{room_none}
 use Rattle.nl_calls_write.proofs.putting.put_index.Goals as goal
 
 pub returns-then-has_index-clause-puts : goal.returns-then-has_index-clause-puts
@@ -24,3 +25,9 @@ returns-clause-has g c =
     on_ok c.put_page.result
     (λ a. has_index G c.args.worker c.args.line c.args.tag c.args.call.now c.args.core.now c.put_page.new.core c.requires.core c.requires.can.known a c.requires.pages (sym c.has_index.ensures ∙ c.if-has_index.false) c.requires.written c.requires.can.has_line)
     c.put_page.ensures.added
+
+pub returns-then-has_index-clause-at_once : goal.returns-then-has_index-clause-at_once
+returns-then-has_index-clause-at_once g c has = room_none g.D.Counts 1 c.args.core.now
+
+pub returns-clause-at_once : goal.returns-clause-at_once
+returns-clause-at_once g c = c.put_page.ensures.at_once

@@ -1,7 +1,9 @@
-use Rattle.std.proofs.Common.{Some, refl}
+use Rattle.std.proofs.Common.{Some, refl, arith}
 use Rattle.nl_meta_running.specs.declared.answer.Stop.TheVariants as stop
 use Rattle.nl_calls_steps.proofs.Early.{early-then}
 use Rattle.nl_calls_write.proofs.OnePage.{adds_page, not_stopped, puts_no_page, puts_page, puts_read}
+use Rattle.nl_core.proofs.LastCommits.{room_more}
+use Rattle.nl_calls_steps.proofs.LastCommitOn.{reads_at_once, reads_room}
 use Rattle.nl_calls_write.proofs.putting.put_page.Goals as goal
 
 pub returns-in-InFlight-clause-puts : goal.returns-in-InFlight-clause-puts
@@ -42,3 +44,22 @@ pub unreachable-requires : goal.unreachable-requires
 unreachable-requires g c =
     let G = g.D.Counts in
     not_stopped G c.args.core.now c.make_page-made.new.core c.make_page-made.ensures.same c.requires.can.writes c.requires.stamp (c.program.ensures.stopped.0 c.in-Stopped.is)
+
+pub returns-in-InFlight-clause-at_once : goal.returns-in-InFlight-clause-at_once
+returns-in-InFlight-clause-at_once g c =
+    reads_at_once g.D.Counts c.args.core.now c.make_page-made.new.core c.program.new.self c.make_page-made.ensures.same c.program.ensures.at_once
+
+pub returns-in-Lost-clause-at_once : goal.returns-in-Lost-clause-at_once
+returns-in-Lost-clause-at_once g c =
+    reads_at_once g.D.Counts c.args.core.now c.make_page-made.new.core c.program.new.self c.make_page-made.ensures.same c.program.ensures.at_once
+
+pub returns-in-Fault-clause-at_once : goal.returns-in-Fault-clause-at_once
+returns-in-Fault-clause-at_once g c =
+    reads_at_once g.D.Counts c.args.core.now c.make_page-made.new.core c.program.new.self c.make_page-made.ensures.same c.program.ensures.at_once
+
+pub returns-in-Err-clause-at_once : goal.returns-in-Err-clause-at_once
+returns-in-Err-clause-at_once g c has =
+    let G = g.D.Counts in
+    let u = c.args.core.now in
+    let v = c.make_page-made.new.core in
+    room_more G 0 1 u v (omega arith) (reads_room G u v c.make_page-made.ensures.same)

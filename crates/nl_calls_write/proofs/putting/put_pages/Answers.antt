@@ -4,6 +4,9 @@ use Rattle.nl_calls_bytes.proofs.Places.{few_left, few_turns, in_range, index_in
 use Rattle.nl_calls_steps.proofs.Early.{within-early}
 use Rattle.nl_calls_steps.proofs.Going.{file_on, leads_on}
 use Rattle.nl_calls_write.proofs.OnePage.{flying_more, others_few, puts_more, puts_then}
+use Rattle.nl_calls_bytes.specs.Contents.{count_indexes}
+use Rattle.nl_core.proofs.LastCommits.{room_more}
+use Rattle.nl_calls_write.proofs.Uncommitted.{end_counted, index_counted, one_more}
 use Rattle.nl_calls_write.proofs.putting.put_pages.Goals as goal
 
 pub put_index-requires-clause-written : goal.put_index-requires-clause-written
@@ -61,6 +64,9 @@ indexes-preserved g c =
       pages = h.pages;
       line = h.has_line;
       has = flying_more c.args.ino c.args.generation c.args.worker c.args.line c.args.call.now (from_of c.args.call.now / 4096) c.indexes.index c.indexes.core c.put_index.new.core h i.has;
+      at_once = λ room. one_more G (count_indexes (from_of c.args.call.now) (len_of c.args.call.now)) (c.indexes.index - from_of c.args.call.now / 4096) c.args.core.now c.indexes.core c.put_index.new.core
+          (index_counted (from_of c.args.call.now) (len_of c.args.call.now) c.indexes.index from (let test = c.indexes-test.true in let offset = c.offset_of-2.ensures in let len = c.length_of.ensures in let some = c.requires.few.0 in omega (arith, test, offset, len, some)))
+          i.at_once c.put_index.ensures.at_once room (c.indexes.index + 1 - from_of c.args.call.now / 4096) (omega (arith, from));
     }
 
 pub returns-clause-puts : goal.returns-clause-puts
@@ -78,3 +84,34 @@ returns-clause-pages g c = (
       let high = r.1 in
       c.indexes.invariant.has i r.0 (omega (arith, high)),
 )
+
+pub returns-in-Err-clause-at_once : goal.returns-in-Err-clause-at_once
+returns-in-Err-clause-at_once g c room =
+    let G = g.D.Counts in
+    let i = c.indexes.invariant in
+    let from = i.from in
+    let test = c.indexes-test.true in
+    let offset = c.offset_of-2.ensures in
+    let len = c.length_of.ensures in
+    let some = c.requires.few.0 in
+    let less = index_counted (from_of c.args.call.now) (len_of c.args.call.now) c.indexes.index from (omega (arith, test, offset, len, some)) in
+    one_more G (count_indexes (from_of c.args.call.now) (len_of c.args.call.now)) (c.indexes.index - from_of c.args.call.now / 4096) c.args.core.now c.indexes.core c.put_index.new.core
+    less i.at_once c.put_index.ensures.at_once room (count_indexes (from_of c.args.call.now) (len_of c.args.call.now)) less
+
+pub returns-then-core-ne0-clause-at_once : goal.returns-then-core-ne0-clause-at_once
+returns-then-core-ne0-clause-at_once g c room =
+    let G = g.D.Counts in
+    let i = c.indexes.invariant in
+    let test = c.indexes-test.true in
+    let offset = c.offset_of-2.ensures in
+    let len = c.length_of.ensures in
+    let some = c.requires.few.0 in
+    room_more G (c.indexes.index - from_of c.args.call.now / 4096) (count_indexes (from_of c.args.call.now) (len_of c.args.call.now)) c.args.core.now c.indexes.core
+    (end_counted (from_of c.args.call.now) (len_of c.args.call.now) c.indexes.index (omega (arith, test, offset, len, some))) (i.at_once room)
+
+pub returns-clause-at_once : goal.returns-clause-at_once
+returns-clause-at_once g c room =
+    let G = g.D.Counts in
+    let end = c.indexes.auto.index-end (omega arith) in
+    room_more G (c.indexes.index - from_of c.args.call.now / 4096) (count_indexes (from_of c.args.call.now) (len_of c.args.call.now)) c.args.core.now c.indexes.core
+    (end_counted (from_of c.args.call.now) (len_of c.args.call.now) c.indexes.index (omega (arith, end))) (c.indexes.invariant.at_once room)

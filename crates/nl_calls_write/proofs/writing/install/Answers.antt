@@ -8,6 +8,8 @@ use Rattle.nl_calls_write.proofs.Carried.{all_on, line_of_on, of_record, written
 use Rattle.nl_calls_steps.proofs.Going.{files_on, leads_on}
 use Rattle.nl_calls_write.proofs.OnePage.{flight_same, reads_first}
 use Rattle.nl_calls_write.proofs.Parts.{fitting_of, read_early, read_then, room_refused}
+use Rattle.nl_core.proofs.LastCommits.{commit_then}
+use Rattle.nl_calls_steps.proofs.LastCommitOn.{reads_commit}
 use Rattle.nl_calls_write.proofs.writing.install.Goals as goal
 
 pub install_ready-requires : goal.install_ready-requires
@@ -60,3 +62,16 @@ returns-in-Err-clause-ends g c =
     let G = g.D.Counts in
     let d = c.device_stands.ensures in
     read_early G c.args.worker c.args.call.now c.args.core.now c.fits-room.new.core c.requires.core d.volume c.fits-room.ensures.core.formed d.pages c.fits-room.ensures.same 0 c.in-Err.stop c.in-Err.ensures.early
+
+pub returns-in-Fits-clause-commit : goal.returns-in-Fits-clause-commit
+returns-in-Fits-clause-commit g c =
+    let G = g.D.Counts in
+    let u = c.args.core.now in
+    let v = c.fits-room.new.core in
+    commit_then u v c.install_ready.new.core (reads_commit G u v c.fits-room.ensures.same) c.install_ready.ensures.commit
+
+pub returns-in-No-clause-commit : goal.returns-in-No-clause-commit
+returns-in-No-clause-commit g c = reads_commit g.D.Counts c.args.core.now c.fits-room.new.core c.fits-room.ensures.same
+
+pub returns-in-Err-clause-commit : goal.returns-in-Err-clause-commit
+returns-in-Err-clause-commit g c = reads_commit g.D.Counts c.args.core.now c.fits-room.new.core c.fits-room.ensures.same

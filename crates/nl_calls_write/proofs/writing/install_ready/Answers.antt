@@ -1,5 +1,6 @@
 use Rattle.std.proofs.Common.{arith}
 use Rattle.nl_calls_write.proofs.Installed.{has_room, install_ends, line_fits, size_low, some_pages, taken}
+use Rattle.nl_calls_steps.proofs.LastCommitOn.{steps_commit}
 use Rattle.nl_calls_write.proofs.writing.install_ready.Goals as goal
 
 pub install_line-requires-clause-some : goal.install_line-requires-clause-some
@@ -45,3 +46,6 @@ returns-clause-ends g c =
     let r = c.requires in
     install_ends G c.args.core.now c.args.worker c.args.ino c.args.files c.args.rec c.args.call.now r.core r.known c.flight_leads.ensures r.write.writing r.write.some r.write.few r.write.within r.write.short r.leads r.ready r.files r.pages r.all
     r.written c.looks_refuse.ensures c.max-size.result (omega arith) c.install_line.new.core c.install_line.new.rec c.install_line.ensures.installs c.files_after.result c.files_after.ensures
+
+pub returns-clause-commit : goal.returns-clause-commit
+returns-clause-commit g c = steps_commit g.D.Counts c.args.core.now c.install_line.new.core c.install_line.ensures.installs.steps

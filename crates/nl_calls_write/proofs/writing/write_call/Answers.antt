@@ -19,3 +19,9 @@ pub returns-in-Err-clause-ends : goal.returns-in-Err-clause-ends
 returns-in-Err-clause-ends g c =
     let G = g.D.Counts in
     subst (λ (a : Written). EndsWrite G (2 ^ 40) c.args.worker c.args.call.now c.args.core.now c.write_path.new.core a) (sym c.ended_early.ensures) c.in-Err.ensures.ends
+
+pub returns-in-Ok-clause-commit : goal.returns-in-Ok-clause-commit
+returns-in-Ok-clause-commit g c = c.write_path.ensures.commit
+
+pub returns-in-Err-clause-commit : goal.returns-in-Err-clause-commit
+returns-in-Err-clause-commit g c = c.write_path.ensures.commit

@@ -5,6 +5,7 @@ use Rattle.nl_calls_write.proofs.Carried.{line_put, written_put}
 use Rattle.nl_calls_write.proofs.Ends.{ends_after}
 use Rattle.nl_calls_steps.proofs.Going.{file_on, files_on, generation_on, leads_on}
 use Rattle.nl_calls_write.proofs.Parts.{part_early, part_stopped, put_early, put_goes, put_others}
+use Rattle.nl_calls_write.proofs.Uncommitted.{put_commit, put_then}
 use Rattle.nl_calls_write.proofs.writing.write_pages.Goals as goal
 
 pub keep_line-requires-clause-file : goal.keep_line-requires-clause-file
@@ -95,3 +96,12 @@ returns-in-Err-clause-ends g c =
     part_early G (17 * 2 ^ 30) c.args.worker c.args.call.now u w (put_goes G (17 * 2 ^ 30) c.args.ino c.args.generation c.args.worker c.args.line c.args.call.now u v w k p)
     (put_others G (17 * 2 ^ 30) c.args.ino c.args.generation c.args.worker c.args.line c.args.call.now u v w k p) (2 ^ 36) (omega arith) c.in-Err.stop
     (put_early G (17 * 2 ^ 30) c.args.ino c.args.generation c.args.worker c.args.line c.args.call.now u v w k p c.in-Err.stop c.in-Err.ensures.early)
+
+pub returns-then-core-ne0-clause-commit : goal.returns-then-core-ne0-clause-commit
+returns-then-core-ne0-clause-commit g c = put_commit g.D.Counts c.args.call.now c.args.core.now c.keep_line.new.core c.put_pages.new.core c.keep_line.ensures.room c.put_pages.ensures.at_once
+
+pub returns-else-core-ne0-clause-commit : goal.returns-else-core-ne0-clause-commit
+returns-else-core-ne0-clause-commit g c has = put_then g.D.Counts c.args.call.now c.args.core.now c.keep_line.new.core c.put_pages.new.core c.keep_line.ensures.room c.put_pages.ensures.at_once has c.install_pages.new.core c.install_pages.ensures.commit
+
+pub returns-in-Err-clause-commit : goal.returns-in-Err-clause-commit
+returns-in-Err-clause-commit g c = put_commit g.D.Counts c.args.call.now c.args.core.now c.keep_line.new.core c.put_pages.new.core c.keep_line.ensures.room c.put_pages.ensures.at_once

@@ -8,6 +8,8 @@ use Rattle.nl_calls_write.proofs.Carried.{can_on, stamp_on}
 use Rattle.nl_calls_steps.proofs.Going.{files_on, leads_on}
 use Rattle.nl_calls_write.proofs.OnePage.{reads_first}
 use Rattle.nl_calls_write.proofs.Parts.{fitting_of, read_early, read_then, room_refused}
+use Rattle.nl_calls_bytes.specs.Contents.{count_indexes}
+use Rattle.nl_calls_steps.proofs.LastCommitOn.{reads_commit, reads_through}
 use Rattle.nl_calls_write.proofs.writing.write_some.Goals as goal
 
 pub write_pages-requires : goal.write_pages-requires
@@ -54,3 +56,16 @@ returns-in-Err-clause-ends g c =
     let G = g.D.Counts in
     let d = c.device_stands.ensures in
     read_early G c.args.worker c.args.call.now c.args.core.now c.fits-room.new.core c.requires.core d.volume c.fits-room.ensures.core.formed d.pages c.fits-room.ensures.same (2 ^ 36) c.in-Err.stop c.in-Err.ensures.early
+
+pub returns-in-Fits-clause-commit : goal.returns-in-Fits-clause-commit
+returns-in-Fits-clause-commit g c =
+    let G = g.D.Counts in
+    let u = c.args.core.now in
+    let v = c.fits-room.new.core in
+    reads_through G u v c.fits-room.ensures.same 4 (count_indexes (from_of c.args.call.now) (len_of c.args.call.now)) c.write_pages.new.core c.write_pages.ensures.commit
+
+pub returns-in-No-clause-commit : goal.returns-in-No-clause-commit
+returns-in-No-clause-commit g c room = reads_commit g.D.Counts c.args.core.now c.fits-room.new.core c.fits-room.ensures.same
+
+pub returns-in-Err-clause-commit : goal.returns-in-Err-clause-commit
+returns-in-Err-clause-commit g c room = reads_commit g.D.Counts c.args.core.now c.fits-room.new.core c.fits-room.ensures.same

@@ -4,8 +4,10 @@ use Rattle.nl_calls.proofs.Answered.{and_false, fault_effect}
 use Rattle.nl_calls.proofs.Counted.{goes_counted}
 use Rattle.nl_calls.proofs.Ended.{ends_dropped}
 use Rattle.nl_calls.specs.Answering.{is_sync_call}
-use Rattle.nl_volume_stage.specs.Serving.{counts_of, refusing_of}
+use Rattle.nl_calls_steps.specs.Calls.{counts_of}
+use Rattle.nl_volume_stage.specs.Serving.{refusing_of}
 use Rattle.nl_volume_stage.proofs.Due.{due_refused}
+use Rattle.nl_core.proofs.LastCommits.{drops_leaves, drops_room}
 use Rattle.nl_volume.proofs.effect.answer.Goals as goal
 
 pub drop_line-requires-clause-core : goal.drop_line-requires-clause-core
@@ -30,3 +32,9 @@ returns-in-Some-clause-answers g c =
       ended = ends_dropped c.args.worker u.flight v.flight known e.dropped.flight;
       files_are = c.requires.files ∙ sym (goes_counted G 0 u v e.goes as_many);
     }
+
+pub returns-in-Some-clause-kept : goal.returns-in-Some-clause-kept
+returns-in-Some-clause-kept g c cannot = drops_leaves g.D.Counts c.args.worker c.args.core.now c.drop_line.new.self c.drop_line.ensures.dropped
+
+pub returns-in-Some-clause-commit : goal.returns-in-Some-clause-commit
+returns-in-Some-clause-commit g c needs = (drops_room g.D.Counts c.args.worker c.args.core.now c.drop_line.new.self c.drop_line.ensures.dropped).commit

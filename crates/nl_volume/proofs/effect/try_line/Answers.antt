@@ -2,11 +2,15 @@ use Rattle.std.proofs.Common.{◌∙◌, sym, arith}
 use Rattle.nl_core.proofs.Renamed.{as_many}
 use Rattle.nl_calls.proofs.Answered.{answer_after, cleans_after}
 use Rattle.nl_calls.proofs.Counted.{goes_counted}
-use Rattle.nl_volume_stage.specs.Serving.{counts_of, refusing_of}
+use Rattle.nl_calls_steps.specs.Calls.{counts_of}
+use Rattle.nl_volume_stage.specs.Serving.{refusing_of}
 use Rattle.nl_volume_stage.proofs.Due.{due_tried, tried_may}
 use Rattle.nl_volume_stage.proofs.Few.{few_staged}
 use Rattle.nl_volume_stage.proofs.Lines.{staged_for}
 use Rattle.nl_volume_stage.proofs.Serving.{none_is, runs_of}
+use Rattle.nl_core.proofs.LastCommits.{leaves_then}
+use Rattle.nl_calls.proofs.Uncommitted.{needs_then}
+use Rattle.nl_volume.proofs.Uncommitted.{tried_looks}
 use Rattle.nl_volume.proofs.effect.try_line.Goals as goal
 
 pub answer_call-requires-clause-core : goal.answer_call-requires-clause-core
@@ -82,3 +86,12 @@ pub returns-clause-cleaned : goal.returns-clause-cleaned
 returns-clause-cleaned g c is done =
     let p = c.leave_other.ensures.passes in
     cleans_after g.D.Counts c.args.call.now p.most c.args.core.now c.leave_other.new.core c.answer_call.new.core p.goes g.D.MovingPages (c.answer_call.ensures.cleaned is done)
+
+pub returns-clause-kept : goal.returns-clause-kept
+returns-clause-kept g c cannot =
+    let G = g.D.Counts in
+    let u = c.args.core.now in
+    leaves_then G u c.leave_other.new.core c.answer_call.new.core c.leave_other.ensures.kept (c.answer_call.ensures.leaves (tried_looks G u c.args.worker c.args.line c.args.call.now c.requires.tried cannot))
+
+pub returns-clause-commit : goal.returns-clause-commit
+returns-clause-commit g c = needs_then g.D.Counts c.args.call.now c.args.core.now c.leave_other.new.core c.answer_call.new.core c.leave_other.ensures.room c.answer_call.ensures.commit

@@ -2,6 +2,7 @@ use Rattle.std.proofs.Common.{◌∙◌, inl, inr, ⊎_elim, refl, sym}
 use Rattle.nl_volume_stage.proofs.Nexts.{staged_dropped}
 use Rattle.nl_volume_stage.proofs.Pages.{dropped_pages, own_pages}
 use Rattle.nl_volume_stage.proofs.Stages.{passes_dropped, passes_none}
+use Rattle.nl_core.proofs.LastCommits.{drops_leaves, drops_room, leaves_none, room_none}
 use Rattle.nl_volume_stage.proofs.staging.leave_other.Goals as goal
 
 pub returns-then-now-line-clause-passes : goal.returns-then-now-line-clause-passes
@@ -43,3 +44,15 @@ returns-else-now-ne0-clause-pages g c =
 
 pub returns-then-now-line-clause-write_faults : goal.returns-then-now-line-clause-write_faults
 returns-then-now-line-clause-write_faults g c = c.drop_line.ensures.dropped.frees.kept.write_faults
+
+pub returns-then-now-line-clause-kept : goal.returns-then-now-line-clause-kept
+returns-then-now-line-clause-kept g c = drops_leaves g.D.Counts c.args.worker c.args.core.now c.drop_line.new.self c.drop_line.ensures.dropped
+
+pub returns-then-now-line-clause-room : goal.returns-then-now-line-clause-room
+returns-then-now-line-clause-room g c = drops_room g.D.Counts c.args.worker c.args.core.now c.drop_line.new.self c.drop_line.ensures.dropped
+
+pub returns-else-now-ne0-clause-kept : goal.returns-else-now-ne0-clause-kept
+returns-else-now-ne0-clause-kept g c = leaves_none g.D.Counts c.args.core.now
+
+pub returns-else-now-ne0-clause-room : goal.returns-else-now-ne0-clause-room
+returns-else-now-ne0-clause-room g c = room_none g.D.Counts 0 c.args.core.now

@@ -6,6 +6,8 @@ use Rattle.nl_volume_stage.proofs.Nexts.{tells_through}
 use Rattle.nl_volume_stage.proofs.Own.{own_before}
 use Rattle.nl_volume_stage.proofs.Pages.{leaves_from, own_pages, writable_from}
 use Rattle.nl_volume_stage.proofs.Stages.{passes_then, stages_stopped}
+use Rattle.nl_core.proofs.LastCommits.{leaves_then}
+use Rattle.nl_volume_stage.proofs.Uncommitted.{page_then}
 use Rattle.nl_volume_stage.proofs.staging.stage_line.Goals as goal
 use Rattle.nl_volume_stage.proofs.staging.stage_line.Goals.{then-core-ne0-via-then-core-ne0, then-core-ne0-via-else-core-ne0+then-is_worn}
 
@@ -72,3 +74,25 @@ returns-then-core-ne0-clause-unfailed g c far off = absurd (off refl)
 pub returns-clause-unfailed : goal.returns-clause-unfailed
 returns-clause-unfailed g c far off =
     writable_from g.D.Counts c.args.core.now c.leave_other.new.core c.stage_now.new.core c.leave_other.ensures.write_faults (c.stage_now.ensures.unfailed far)
+
+-- ---- what stays
+
+pub returns-then-core-ne0-clause-kept : goal.returns-then-core-ne0-clause-kept
+returns-then-core-ne0-clause-kept g c is = c.leave_other.ensures.kept
+
+pub returns-then-core-ne0-clause-commit : goal.returns-then-core-ne0-clause-commit
+returns-then-core-ne0-clause-commit g c has = c.leave_other.ensures.room.commit
+
+pub returns-clause-kept : goal.returns-clause-kept
+returns-clause-kept g c is =
+    let G = g.D.Counts in
+    let u = c.args.core.now in
+    let v = c.leave_other.new.core in
+    leaves_then G u v c.stage_now.new.core c.leave_other.ensures.kept (c.stage_now.ensures.kept (⊎_elim (λ stopped. absurd (c.stage_now.ensures.not_stopped stopped)) (λ whole. whole) is))
+
+pub returns-clause-commit : goal.returns-clause-commit
+returns-clause-commit g c =
+    let G = g.D.Counts in
+    let u = c.args.core.now in
+    let v = c.leave_other.new.core in
+    page_then G u v c.stage_now.new.core c.leave_other.ensures.room c.stage_now.ensures.commit

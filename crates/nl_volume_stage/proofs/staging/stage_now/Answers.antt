@@ -12,6 +12,9 @@ use Rattle.nl_volume_stage.proofs.Flights.{faults_on}
 use Rattle.nl_volume_stage.proofs.Nexts.{tells_page, tells_whole}
 use Rattle.nl_volume_stage.proofs.Pages.{read_failed, read_leaves, read_lost, read_stays, read_whole, read_writable}
 use Rattle.nl_volume_stage.proofs.Stages.{keeps_line, passes_reads, passes_then, same_lines, stages_failed, stages_lost, stages_whole}
+use Rattle.nl_core.specs.LastCommit.{KeepsCommit}
+use Rattle.nl_calls_steps.proofs.LastCommitOn.{reads_commit, reads_leaves, reads_room}
+use Rattle.nl_volume_stage.proofs.Uncommitted.{noted_commit, page_then}
 use Rattle.nl_volume_stage.proofs.staging.stage_now.Goals as goal
 
 pub next_of-next-requires-clause-few : goal.next_of-next-requires-clause-few
@@ -165,3 +168,37 @@ returns-in-Lost-clause-unfailed g c far = read_stays g.D.Counts c.args.worker c.
 
 pub returns-in-Fault-clause-unfailed : goal.returns-in-Fault-clause-unfailed
 returns-in-Fault-clause-unfailed g c far = absurd (far refl)
+
+-- ---- what stays
+
+pub returns-in-Page-clause-kept : goal.returns-in-Page-clause-kept
+returns-in-Page-clause-kept g c is = absurd (c.stage_page.ensures.not_whole is)
+
+pub returns-in-Page-clause-commit : goal.returns-in-Page-clause-commit
+returns-in-Page-clause-commit g c =
+    let G = g.D.Counts in
+    let u = c.args.core.now in
+    let v = c.next_of-next.new.core in
+    page_then G u v c.stage_page.new.core (reads_room G u v c.next_of-next.ensures.same) c.stage_page.ensures.commit
+
+pub returns-in-Whole-clause-kept : goal.returns-in-Whole-clause-kept
+returns-in-Whole-clause-kept g c is = reads_leaves g.D.Counts c.args.core.now c.next_of-next.new.core c.next_of-next.ensures.same
+
+pub returns-in-Whole-clause-commit : goal.returns-in-Whole-clause-commit
+returns-in-Whole-clause-commit g c has = reads_commit g.D.Counts c.args.core.now c.next_of-next.new.core c.next_of-next.ensures.same
+
+pub returns-in-Lost-clause-kept : goal.returns-in-Lost-clause-kept
+returns-in-Lost-clause-kept g c is = absurd (cc is)
+
+pub returns-in-Lost-clause-commit : goal.returns-in-Lost-clause-commit
+returns-in-Lost-clause-commit g c has = reads_commit g.D.Counts c.args.core.now c.next_of-next.new.core c.next_of-next.ensures.same
+
+pub returns-in-Fault-clause-kept : goal.returns-in-Fault-clause-kept
+returns-in-Fault-clause-kept g c is = absurd (cc is)
+
+pub returns-in-Fault-clause-commit : goal.returns-in-Fault-clause-commit
+returns-in-Fault-clause-commit g c has =
+    let G = g.D.Counts in
+    let u = c.args.core.now in
+    let v = c.next_of-next.new.core in
+    subst (λ (x : Core g.row.D.Denot). KeepsCommit u x) (sym c.note_failure.ensures.noted) (noted_commit G c.args.worker c.args.line u v (reads_commit G u v c.next_of-next.ensures.same))

@@ -8,6 +8,8 @@ use Rattle.nl_volume_stage.proofs.Few.{place_below}
 use Rattle.nl_volume_stage.proofs.Flights.{faults_on}
 use Rattle.nl_volume_stage.proofs.Pages.{leaves_failed, leaves_lost, leaves_staged, leaves_tried, put_fault, put_line, tried_not, tried_writable}
 use Rattle.nl_volume_stage.proofs.Stages.{keeps_line, passes_kept, stages_failed, stages_lost, stages_put, stages_tried}
+use Rattle.nl_core.specs.LastCommit.{KeepsCommit}
+use Rattle.nl_volume_stage.proofs.Uncommitted.{noted_commit, tried_commit}
 use Rattle.nl_volume_stage.proofs.staging.stage_page.Goals as goal
 
 pub program-programmed-requires-clause-place : goal.program-programmed-requires-clause-place
@@ -118,3 +120,20 @@ returns-in-Fault-clause-in_flight g c =
 
 pub returns-in-Fault-clause-unfailed : goal.returns-in-Fault-clause-unfailed
 returns-in-Fault-clause-unfailed g c far = absurd (far refl)
+
+pub returns-in-InFlight-clause-commit : goal.returns-in-InFlight-clause-commit
+returns-in-InFlight-clause-commit g c has =
+    let G = g.D.Counts in
+    tried_commit G c.args.worker c.args.line stage.Staged c.args.core.now c.program-programmed.new.self c.end_tried.new.core c.end_tried.result c.end_tried.ensures (c.in-InFlight.ensures.at_once has).commit
+
+pub returns-in-Lost-clause-commit : goal.returns-in-Lost-clause-commit
+returns-in-Lost-clause-commit g c has =
+    let G = g.D.Counts in
+    tried_commit G c.args.worker c.args.line (stage.Lost c.in-Lost.wanted c.in-Lost.found) c.args.core.now c.program-programmed.new.self c.end_tried-in-Lost.new.core c.end_tried-in-Lost.result c.end_tried-in-Lost.ensures
+    (c.in-Lost.ensures.at_once has).commit
+
+pub returns-in-Fault-clause-commit : goal.returns-in-Fault-clause-commit
+returns-in-Fault-clause-commit g c has =
+    let G = g.D.Counts in
+    let u = c.args.core.now in
+    subst (λ (x : Core g.row.D.Denot). KeepsCommit u x) (sym c.note_failure.ensures.noted) (noted_commit G c.args.worker c.args.line u c.program-programmed.new.self (c.in-Fault.ensures.at_once has).commit)

@@ -1,4 +1,4 @@
-use Rattle.std.proofs.Common.{◌≡◌, inl, inr, ⊎_elim, ap, sym, subst, refl}
+use Rattle.std.proofs.Common.{◌≡◌, ⊎_elim, ap, sym, subst, refl}
 use Rattle.nl_core_clean.specs.Carried.{KeepsStored}
 use Rattle.nl_core_clean.specs.declared.cleaning.Cleaned.TheVariants as cleaned
 use Rattle.nl_iface.specs.Calls.{NoWriteFailed, stored}
@@ -56,7 +56,7 @@ returns-clause-cleans g c =
       nothing = e.nothing;
       space = e.space;
       pending = e.held.pages.pending;
-      posted = λ c has. ⊎_elim inl (λ new. inr new.0) (e.held.pages.posted c has);
+      posted = e.held.pages.posted;
       others = refl;
       lost = λ w found is. ((e.lost w found is).0, λ tells. e.told tells w found is);
     })

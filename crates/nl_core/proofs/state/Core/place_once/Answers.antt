@@ -4,6 +4,7 @@ use Rattle.nl_core.specs.Core.{IsCore}
 use Rattle.nl_core.specs.Goes.{PreservesVolume}
 use Rattle.nl_core.specs.Programming.{PutsPage, with_page}
 use Rattle.nl_core.specs.declared.state.Core.{Core}
+use Rattle.nl_core.proofs.LastCommits.{none_room, put_room}
 use Rattle.nl_core.proofs.Placed.{if_off, is_spelled, none_cause, none_core, none_goes, put_core, put_goes, put_page, puts_none}
 use Rattle.nl_core.proofs.state.Core.place_once.Goals as goal
 
@@ -45,6 +46,10 @@ returns-in-Placed-clause-placed g c =
 pub returns-in-Placed-clause-faults : goal.returns-in-Placed-clause-faults
 returns-in-Placed-clause-faults g c is = absurd (let no : ⊥ = cc in no)
 
+pub returns-in-Placed-clause-at_once : goal.returns-in-Placed-clause-at_once
+returns-in-Placed-clause-at_once g c =
+    put_room g.D.Counts c.args.self.now c.place.new.self c.args.tag c.args.from.now.main c.place.result c.place.ensures.programs c.place.ensures.others c.put_page.new.flight
+
 pub returns-in_default : goal.returns-in_default
 returns-in_default g c =
     let G = g.D.Counts in
@@ -59,4 +64,5 @@ returns-in_default g c =
       placed = if_off c.place.result _ none;
       none = λ off. puts_none G v w c.args.tag c.args.from.now.main c.place.result e.programs e.others c.requires.core e.volume c.requires.writes e.map e.stores none;
       faults = none_cause G v w c.args.tag c.args.from.now.main c.place.result e.programs e.others c.requires.core e.volume c.requires.writes e.map e.stores none;
+      at_once = none_room G v w c.args.tag c.args.from.now.main c.place.result e.programs e.others;
     }

@@ -28,6 +28,7 @@ rounds-init g c =
       formed = e.core.formed;
       tries = tried G c.args.worker c.args.line c.args.tag c.args.from.now.main v v w answer 0 (goes_none G v c.requires.core) refl c.requires.core c.requires.writes c.requires.known
           e.core e.goes e.no_page.0 e.placed e.none e.faults (omega (arith, few));
+      at_once = λ has. (e.at_once, λ is. let full = e.no_page.0 is in omega (arith, has, full));
     }
 
 pub returns-in-Placed-clause-core : goal.returns-in-Placed-clause-core
@@ -169,4 +170,22 @@ rounds-preserved g c =
           (lines_round G c.args.worker c.args.line c.args.tag main v s u t c.round.ensures.goes c.round.ensures.lines)
           c.round.ensures.core c.if-self-ne0.false c.requires.known e.core e.goes e.no_page.0 e.placed e.none e.faults
           (paid_then G c.args.worker c.args.line c.args.tag main v s u t c.round.ensures.goes c.round.ensures.lines w answer less);
+      at_once = λ has. absurd ((c.rounds.invariant.at_once has).1 c.in-NoPage.is);
     }
+
+-- ---- where there was room
+
+pub returns-in-Placed-clause-at_once : goal.returns-in-Placed-clause-at_once
+returns-in-Placed-clause-at_once g c has = (c.rounds.invariant.at_once has).0
+
+pub returns-in-Fault-clause-at_once : goal.returns-in-Fault-clause-at_once
+returns-in-Fault-clause-at_once g c has = (c.rounds.invariant.at_once has).0
+
+pub returns-in-Lost-clause-at_once : goal.returns-in-Lost-clause-at_once
+returns-in-Lost-clause-at_once g c has = absurd ((c.rounds.invariant.at_once has).1 c.in-NoPage.is)
+
+pub returns-in-Fault-round-clause-at_once : goal.returns-in-Fault-round-clause-at_once
+returns-in-Fault-round-clause-at_once g c has = absurd ((c.rounds.invariant.at_once has).1 c.in-NoPage.is)
+
+pub returns-then-self-ne0-clause-at_once : goal.returns-then-self-ne0-clause-at_once
+returns-then-self-ne0-clause-at_once g c has = absurd ((c.rounds.invariant.at_once has).1 c.in-NoPage.is)

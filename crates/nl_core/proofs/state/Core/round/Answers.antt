@@ -4,7 +4,7 @@ use Rattle.nl_core_callbacks.specs.Handled.{nameless_line}
 use Rattle.nl_core.specs.Rounds.{EmptiesTable, ReclaimPassIsDone}
 use Rattle.nl_core.specs.declared.state.Core.{Core}
 use Rattle.nl_core.proofs.Onward.{cause_then, goes_then}
-use Rattle.nl_core.proofs.Rounding.{round_is_done, rounded_to}
+use Rattle.nl_core.proofs.Rounding.{posted_after, round_is_done, rounded_to, table_of}
 use Rattle.nl_core.proofs.state.Core.round.Goals as goal
 
 pub clean-requires-clause-writes : goal.clean-requires-clause-writes
@@ -21,8 +21,15 @@ returns-in-Done-clean-clause-lines g c = ap (λ (x : Core g.row.D.Denot). map na
 pub returns-in-Done-clean-clause-rounds : goal.returns-in-Done-clean-clause-rounds
 returns-in-Done-clean-clause-rounds g c =
     let G = g.D.Counts in
-    round_is_done G g.D.MovingPages c.args.self.now c.empty_table.new.self c.clean.new.self c.in-Done.ensures.emptied c.empty_table.ensures.core c.device_stands.ensures.names.space
-    c.a_cleaning_is_of_a_round.ensures c.clean.result c.in-Done-clean.is c.clean.ensures.cleans
+    let u = c.args.self.now in
+    let v = c.empty_table.new.self in
+    let w = c.clean.new.self in
+    let emptied = c.in-Done.ensures.emptied in
+    let core = c.empty_table.ensures.core in
+    let cleans = c.clean.ensures.cleans in
+    let none = g.met.D.MovingPages.unpaired v.device core.formed emptied.no_pairs in
+    round_is_done G g.D.MovingPages u v w emptied core c.device_stands.ensures.names.space c.a_cleaning_is_of_a_round.ensures c.clean.result c.in-Done-clean.is cleans
+    (posted_after G g.D.MovingPages u v w c.clean.result cleans none c.empty_table.ensures.goes.posted c.clean.ensures.goes.posted) (table_of G w c.clean.ensures.core)
 
 pub returns-in-Done-clean-clause-faults : goal.returns-in-Done-clean-clause-faults
 returns-in-Done-clean-clause-faults g c is = absurd (let no : ⊥ = cc in no)

@@ -6,11 +6,14 @@ use Rattle.nl_calls.specs.Answering.{EndsLine, pages_of_files}
 use Rattle.nl_core.specs.declared.state.Core.{Core}
 use Rattle.nl_spec_crashes.specs.Effects.{counted}
 use Rattle.nl_turns.specs.Served.{FaultHasCause, StaysReadOnly, effect_entry}
-use Rattle.nl_volume_stage.specs.Serving.{counts_of, refusing_of, some_number, to_stage_of}
+use Rattle.nl_calls_steps.specs.Calls.{counts_of}
+use Rattle.nl_volume_stage.specs.Serving.{refusing_of, some_number, to_stage_of}
 use Rattle.nl_volume_stage.specs.Standing.{RepresentsHistory}
 use Rattle.nl_volume.proofs.Answering.{cause_since, later, line_stands}
 use Rattle.nl_volume.proofs.Effected.{line_answers, line_less, line_ordinal, line_place, line_staged, stays_read}
 use Rattle.nl_volume_stage.proofs.Serving.{worker_known}
+use Rattle.nl_core.specs.LastCommit.{KeepsCommit, LeavesMedium}
+use Rattle.nl_volume.proofs.Uncommitted.{counted_commit, counted_leaves}
 use Rattle.nl_volume.proofs.volume.Volume.effect.Goals as goal
 
 pub answer-reply-requires-clause-stands : goal.answer-reply-requires-clause-stands
@@ -127,3 +130,14 @@ returns-clause-since_opening g c v o h s of =
 
 pub returns-clause-cleaned : goal.returns-clause-cleaned
 returns-clause-cleaned g c is done = (c.answer-reply.new.core, c.answer-reply.ensures.cleaned is done, c.count_call.ensures)
+
+pub returns-clause-kept : goal.returns-clause-kept
+returns-clause-kept g c cannot =
+    let G = ghosts g.row.M g.M.Nand g.M.Nand-dict in
+    let u = c.args.self.now.core in
+    subst (λ (y : Core (Device g.row.M.Denot)). LeavesMedium G u y) (sym c.count_call.ensures) (counted_leaves G u c.answer-reply.new.core (c.answer-reply.ensures.kept cannot))
+
+pub returns-clause-commit : goal.returns-clause-commit
+returns-clause-commit g c needs =
+    let u = c.args.self.now.core in
+    subst (λ (y : Core (Device g.row.M.Denot)). KeepsCommit u y) (sym c.count_call.ensures) (counted_commit u c.answer-reply.new.core (c.answer-reply.ensures.commit needs))

@@ -4,7 +4,7 @@ use Rattle.nl_field.specs.CrashStates.{top}
 use Rattle.nl_meta.specs.Consistent.{page_on}
 use Rattle.nl_spec_commits.specs.Trees.{all_at}
 use Rattle.nl_core.specs.Trees.{CoreRepresents}
-use Rattle.nl_spec_image.proofs.SoundProofs.{stands_for_one}
+use Rattle.nl_spec_image.proofs.SoundProofs.{represents_one}
 use Rattle.nl_volume.proofs.Begins.{opening_stands}
 use Rattle.nl_volume.proofs.volume.Volume.open_volume.Goals as goal
 
@@ -20,7 +20,7 @@ returns-in-Ready-clause-stands g c tree lines are sound =
       opening_stands G v tree lines e.core e.opened few are c.counts.ensures.write_faults
           (λ tells.
           let k = e.stands tells in
-          let one = (stands_for_one image v.count v.count k.0 tree k.1.stands (sound tells).stands).1 in
+          let one = (represents_one image v.count v.count k.0 tree k.1.stands (sound tells).stands).1 in
           (page_on image, subst (λ t. CoreRepresents G v (page_on image) (all_at v.count t)) one k.2)),
       e.files,
     )

@@ -71,3 +71,9 @@ returns-clause-fault g c =
 
 pub returns-clause-others : goal.returns-clause-others
 returns-clause-others g c = c.stage_line.ensures.stages.others
+
+pub returns-clause-kept : goal.returns-clause-kept
+returns-clause-kept g c = c.stage_line.ensures.kept
+
+pub returns-clause-commit : goal.returns-clause-commit
+returns-clause-commit g c = c.stage_line.ensures.commit
