@@ -21,6 +21,7 @@ module _ (leaves : Leaving → Type 0) (source source' sink sink' : Stream) (med
   untold lines worn course r =
       record {
         opens = r.opens;
+        begins = r.begins;
         order_is = r.order_is;
         answers = r.answers;
         syncs_are = r.syncs_are;

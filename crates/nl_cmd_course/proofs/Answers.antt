@@ -11,15 +11,15 @@ use Rattle.nl_tree.specs.Replay.{Answers, answer_due}
 use Rattle.nl_tree.specs.declared.call.Call.{Call}
 use Rattle.nl_tree.specs.declared.call.Line.{Line}
 use Rattle.nl_tree.specs.declared.reply.FaultReply.{FaultReply}
-use Rattle.nl_turns.specs.History.{IsKnown, Opening, call_at, call_of, fault_of, is_effect, marked_calls}
+use Rattle.nl_turns.specs.History.{IsKnown, Opening, call_at, call_of, effects, fault_of, is_effect, marked_calls}
 use Rattle.nl_turns.specs.declared.entry.Entry.{Entry}
 use Rattle.nl_workers.specs.Rounds.{AreRows}
 use Rattle.nl_workers.specs.Table.{Row}
-use Rattle.nl_spec_headline.specs.Course.{Course, RepliedLine, calls_in, count_after}
+use Rattle.nl_spec_headline.specs.Course.{Course, RepliedLine, calls_in}
 use Rattle.nl_cmd_answers.specs.Rows.{HavePlaces}
 use Rattle.nl_cmd_course.specs.Rounds.{course_of}
 use Rattle.nl_cmd_course.proofs.Lists.{found_map, pairs_of_each, pairs_of_found, passes, some_same}
-use Rattle.nl_cmd_course.proofs.Replies.{answers_are, as_many, calls_are, effects_are, entry_at, entry_of, line_or, line_or_is, marked, reply_or, row_is_at, row_known, row_of}
+use Rattle.nl_cmd_course.proofs.Replies.{answers_are, calls_are, effects_are, entry_at, entry_of, line_or, line_or_is, marked, reply_or, row_is_at, row_known, row_of}
 
 module _ (tells : Type 0) (o : Opening) (h : List Entry) (rows : List Row) (are : AreRows tells o h rows) (known : (e : Entry) → Has h e → IsKnown o e) where
   abbrev course : Course
@@ -27,7 +27,7 @@ module _ (tells : Type 0) (o : Opening) (h : List Entry) (rows : List Row) (are 
 
   -- ---- places
 
-  pub have_places : count_after course < 2 ^ 63 → HavePlaces o.count rows
+  pub have_places : o.count + effects h ≤ top → HavePlaces o.count rows
   have_places few i = go (slice_get rows i) refl
     where
       go : (x : Option Row) → slice_get rows i ≡ x → IfSome x (λ row. row.answered.place ≡ o.count + i + 1)
@@ -35,10 +35,9 @@ module _ (tells : Type 0) (o : Opening) (h : List Entry) (rows : List Row) (are 
       go (Some row) e =
           let r = row_is_at tells o h rows are i row e in
           let low = slice_get_within rows i row e in
-          let many = as_many tells o h rows are known in
           let all = are.one_each in
           let place = r.2.place in
-          let within : o.count + (i + 1) ≤ top = omega (arith, low, many, all, few) in
+          let within : o.count + (i + 1) ≤ top = omega (arith, low, all, few) in
           let same : o.count + (i + 1) ≡ o.count + i + 1 = omega arith in
           place ∙ (min-eq_left within ∙ same)
 

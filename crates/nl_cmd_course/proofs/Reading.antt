@@ -40,9 +40,10 @@ module _ (tells : Type 0) (lines : List Line) (stops stops' : Run → Type 0) (e
   ran_from r = record {
     runs = record {
       opens = λ t. subst (λ (x : Image). OpensAs x course) (contents t) (r.runs.opens t);
+      begins = r.runs.begins;
       order_is = r.runs.order_is;
       answers = subst (λ (x : Counts). AnswersByTree tells x medium'.counts course) counts r.runs.answers;
-      syncs_are = λ few. subst (λ (x : Counts). TellsSyncs x medium'.counts course (syncs_of_rows rows)) counts (r.runs.syncs_are few);
+      syncs_are = subst (λ (x : Counts). TellsSyncs x medium'.counts course (syncs_of_rows rows)) counts r.runs.syncs_are;
       stopped = λ t young. stopped_from t (r.runs.stopped t (young_from t young));
       ends = λ t young none unworn. r.runs.ends t (young_from t young) (rose_from none) unworn;
     };

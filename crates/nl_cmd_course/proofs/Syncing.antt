@@ -9,7 +9,7 @@ use Rattle.std.proofs.lemmas.List.Sums.{sum_by-cons, sum_by-append}
 use Rattle.std.specs.List.{AllByRecursion, position_or_len}
 use Rattle.std.specs.Prelude.{AllPairs, Contains, IfSome, IsTrue, nat_lt, slice_get, filter_map, option_map, position, unwrap_or, is_some}
 use mathlib.Core.List.{map-append}
-use Rattle.nl_field.specs.CrashStates.{saturated}
+use Rattle.nl_field.specs.CrashStates.{saturated, top}
 use Rattle.nl_field.specs.Members.{Has}
 use Rattle.nl_tree.specs.Calls.{AreLines}
 use Rattle.nl_tree.specs.Order.{AreSyncs, IsOrderOf, IsSyncAt, LineSync, SyncPoint, has_to_precede, sync_answered}
@@ -153,7 +153,7 @@ module _ (tells : Type 0) (o : Opening) (history : List Passed) (rows : List Row
 
   -- ---- how many calls
 
-  module _ (lines_rise : AreLines o.lines) (order : IsOrderOf o.lines (answered_lines o.lines h)) (placed : AllPlaced o.lines history) (ranges : SyncsInRange o h) (few : o.count + effects h < 2 ^ 63) where
+  module _ (lines_rise : AreLines o.lines) (order : IsOrderOf o.lines (answered_lines o.lines h)) (placed : AllPlaced o.lines history) (ranges : SyncsInRange o h) (few : o.count + effects h ≤ top) where
     each_found : (xs : List Entry) → ((e : Entry) → Has xs e → IsKnown o e) → Each (IsFound o.lines) xs
     each_found [] is = tt
     each_found (e ∷ xs) is = (one (is e (inl refl)), each_found xs (λ x has. is x (inr has)))
@@ -336,7 +336,7 @@ module _ (tells : Type 0) (o : Opening) (history : List Passed) (rows : List Row
       let b = ap (λ (s : SyncPoint). s.moment) (got_sync told j d) in
       omega (arith, k, a, b)
 
-  pub are_syncs : (first last : ℕ) → AreLines o.lines → IsOrderOf o.lines (answered_lines o.lines h) → AllPlaced o.lines history → SyncsInRange o h → o.count + effects h < 2 ^ 63
+  pub are_syncs : (first last : ℕ) → AreLines o.lines → IsOrderOf o.lines (answered_lines o.lines h) → AllPlaced o.lines history → SyncsInRange o h → o.count + effects h ≤ top
       → AllPairs (λ a b. a.moment ≤ b.moment) (syncs_of h) → ((s : SyncPoint) → Has (syncs_of h) s → (first ≤ s.moment) × (s.moment ≤ last)) → AreSyncs o.count first last (replies_in course) told
   are_syncs first last lines_rise order placed ranges few rising within = record {
     listed = syncs_told tells o h rows are known;

@@ -1,5 +1,7 @@
 -- The sentences hold of the course of the rows: each from what the workers, the volume and its closing say.
-use Rattle.std.proofs.Common.{◌≡◌, ℕ, ◌+◌, ◌^◌, ◌<◌, ◌≤◌, Bool, true, false, List, [], Some, sym, ap, ◌∙◌, subst, arith}
+use Rattle.std.proofs.Common.{◌≡◌, ℕ, ◌+◌, ◌^◌, ◌<◌, ◌≤◌, Bool, true, false, List, [], length, Some, sym, ap, ◌∙◌, subst, arith}
+use Rattle.std.proofs.lemmas.List.{length-map}
+use Rattle.std.proofs.lemmas.List.Sorted.{length_permutation}
 use Rattle.std.specs.Prelude.{AllPairs, IfSome}
 use Rattle.nl_field.specs.CrashStates.{Earlier, top}
 use Rattle.nl_field.specs.Members.{Has}
@@ -19,8 +21,8 @@ use Rattle.nl_turns.specs.Seat.{Passed, entries}
 use Rattle.nl_turns.specs.declared.entry.Entry.{Entry}
 use Rattle.nl_workers.specs.Rounds.{AllPlaced, AreRows, answered_lines}
 use Rattle.nl_workers.specs.Table.{Row}
-use Rattle.nl_spec_headline.specs.Course.{Course, count_after, run_in, tree_after}
-use Rattle.nl_spec_headline.specs.Headline.{AnswersByTree, EndsAfterAll, IsOneOrder, IsYoung, OpensAs, RunsLines, CrashesLeavePrefixes, TellsSyncs}
+use Rattle.nl_spec_headline.specs.Course.{Course, RepliedLine, count_after, lines_in, run_in, tree_after}
+use Rattle.nl_spec_headline.specs.Headline.{AnswersByTree, BeginsSpelled, EndsAfterAll, IsOneOrder, IsYoung, OpensAs, RunsLines, CrashesLeavePrefixes, TellsSyncs}
 use Rattle.nl_spec_headline.specs.Streams.{Medium, MediumRose}
 use Rattle.nl_cmd_course.specs.Charges.{AreCharges}
 use Rattle.nl_cmd_course.specs.declared.charges.Charges.{Charges}
@@ -43,7 +45,8 @@ pub record HasKept (tells : Type 0) (o : Opening) (h : List Entry) (before then 
   pub within : (s : SyncPoint) → Has (syncs_of h) s → Earlier before.clock s.moment × (before.clock ≤ s.moment) × (s.moment ≤ now.clock)
 
 module _ (tells : Type 0) (lines : List Line) (o : Opening) (history : List Passed) (rows : List Row) (has : o.lines ≡ lines) (rise : AreLines lines) (order : IsOrderOf lines (answered_lines lines (entries history)))
-    (table : AreRows tells o (entries history) rows) (placed : AllPlaced lines history) (before then now : Counts) (kept : HasKept tells o (entries history) before then now) where
+    (table : AreRows tells o (entries history) rows) (placed : AllPlaced lines history) (before then now : Counts) (kept : HasKept tells o (entries history) before then now)
+    (begins : BeginsSpelled (course_of o [])) (short : length lines < 2 ^ 32) where
   abbrev course : Course
   course = course_of o rows
 
@@ -77,14 +80,23 @@ module _ (tells : Type 0) (lines : List Line) (o : Opening) (history : List Pass
     refused = refused_alike tells o h rows table kept.known kept.number kept.refused;
   }
 
-  tells_syncs : count_after course < 2 ^ 63 → TellsSyncs before now course (syncs_of_rows rows)
-  tells_syncs few =
+  -- as many places as lines, which do not come to their end
+  within : o.count + effects h ≤ top
+  within =
+      let begun : o.count < 2 ^ 63 = begins.count in
+      let a = length-map course.answers (λ (x : RepliedLine). x.line) in
+      let b = length_permutation lines (lines_in course) in_order.in_order.each_once in
+      let c = as_many tells o h rows table kept.known in
+      omega (arith, a, b, c, begun, short)
+
+  tells_syncs : TellsSyncs before now course (syncs_of_rows rows)
+  tells_syncs =
       are_syncs tells o history rows table kept.known before.clock now.clock
       (subst AreLines (sym has) rise)
       (subst (λ ls. IsOrderOf ls (answered_lines ls h)) (sym has) order)
       (subst (λ ls. AllPlaced ls history) (sym has) placed)
       kept.ranges
-      (let is = many in omega (arith, is, few))
+      within
       kept.rising
       (λ s there. let w = kept.within s there in (w.1, w.2))
 
@@ -119,9 +131,10 @@ module _ (tells : Type 0) (lines : List Line) (o : Opening) (history : List Pass
     runs : RunsLines tells lines stops medium medium' (order_of_rows rows) (syncs_of_rows rows) worn course
     runs = record {
       opens = λ t. opens_so medium.contents (opens t);
+      begins = record { count = begins.count; next_stamp = begins.next_stamp };
       order_is = in_order;
       answers = subst (λ (c : Counts × Counts). AnswersByTree tells c.0 c.1 course) (λ k. (sym counts k, sym counts' k)) by_tree;
-      syncs_are = λ few. subst (λ (c : Counts × Counts). TellsSyncs c.0 c.1 course (syncs_of_rows rows)) (λ k. (sym counts k, sym counts' k)) (tells_syncs few);
+      syncs_are = subst (λ (c : Counts × Counts). TellsSyncs c.0 c.1 course (syncs_of_rows rows)) (λ k. (sym counts k, sym counts' k)) tells_syncs;
       stopped = λ t young. subst (λ (c : Counts). CrashesLeavePrefixes medium.contents c stops course) (sym counts) (stops_so t (young_is young));
       ends = λ t young. ends_so t (young_is young);
     }
@@ -131,6 +144,6 @@ module _ (tells : Type 0) (lines : List Line) (o : Opening) (history : List Pass
       runs = runs;
       causes = record { lost_is = none_lost; worn_is = λ is. subst (λ (c : Counts × Counts). MayBeExhausted c.0 c.1 o.next_stamp) (λ k. (sym counts k, sym counts' k)) (worn_is is) };
       said = printed tells o h rows table kept.known;
-      places = have_places tells o h rows table kept.known;
+      places = have_places tells o h rows table kept.known within;
       charged = λ t. subst (AreCharges charges) tree_is (charged t);
     }

@@ -8,7 +8,7 @@ use Rattle.nl_tree.specs.declared.reply.Reply.{Reply}
 use Rattle.nl_tree.specs.declared.reply.Reply.TheVariants.{Synced as SyncReply}
 use Rattle.nl_turns.specs.History.{Opening, line_at}
 use Rattle.nl_workers.specs.Table.{IsTableFor, Row, TableState}
-use Rattle.nl_spec_headline.specs.Course.{Course, RepliedLine, count_after, tree_after}
+use Rattle.nl_spec_headline.specs.Course.{Course, RepliedLine, tree_after}
 use Rattle.nl_spec_headline.specs.Headline.{RunsLines}
 use Rattle.nl_spec_headline.specs.Status.{HaveCauses}
 use Rattle.nl_spec_headline.specs.Streams.{Medium}
@@ -79,5 +79,5 @@ pub record LinesRan (tells : Type 0) (lines : List Line) (stops : Run → Type 0
   pub runs : RunsLines tells lines stops medium medium' (order_of_rows rows) (syncs_of_rows rows) worn course
   pub causes : HaveCauses tells medium.counts medium'.counts course.next_stamp lost worn
   pub said : map said rows ≡ map (λ (a : RepliedLine). (a.line.line, a.reply, a.bytes)) course.answers
-  pub places : count_after course < 2 ^ 63 → HavePlaces course.count rows
+  pub places : HavePlaces course.count rows
   pub charged : tells → AreCharges charges (tree_after course)

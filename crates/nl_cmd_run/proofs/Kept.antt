@@ -12,7 +12,7 @@ use Rattle.nl_core.specs.Core.{begun_of}
 use Rattle.nl_core.specs.declared.state.Core.{Core}
 use Rattle.nl_turns.specs.History.{Opening, effects, opening_counts}
 use Rattle.nl_turns.specs.declared.entry.Entry.{Entry}
-use Rattle.nl_volume_stage.specs.Serving.{counts_of}
+use Rattle.nl_calls_steps.specs.Calls.{counts_of}
 use Rattle.nl_volume.specs.Closing.{IsYoungAtEnd}
 use Rattle.nl_volume_stage.specs.Standing.{RepresentsHistory}
 use Rattle.nl_volume_stage.proofs.Causes.{still_cause}

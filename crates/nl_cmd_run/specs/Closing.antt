@@ -8,7 +8,7 @@ use Rattle.nl_device.specs.declared.device.Device.{Device}
 use Rattle.nl_core.specs.declared.state.Core.{Core}
 use Rattle.nl_turns.specs.History.{Opening, has_lost_page}
 use Rattle.nl_turns.specs.declared.entry.Entry.{Entry}
-use Rattle.nl_volume_stage.specs.Serving.{counts_of}
+use Rattle.nl_calls_steps.specs.Calls.{counts_of}
 use Rattle.nl_volume_stage.specs.Standing.{RepresentsHistory}
 use Rattle.nl_volume.specs.Closing.{ClosesCommitted, CommitsLast, LosesLastCommit, counts_on}
 use Rattle.nl_volume.specs.declared.closing.Closed.{Closed}

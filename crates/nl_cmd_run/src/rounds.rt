@@ -4,6 +4,7 @@ ghost use Rattle.nl_core_open.specs.Opening.{OnlyReadsMedium};
 ghost use Rattle.nl_spec_image.specs.Stands.{ConsistentAs};
 ghost use Rattle.nl_tree.specs.Calls.{AreLines};
 ghost use Rattle.nl_tree.specs.Tree.{Tree};
+ghost use Rattle.nl_workers.specs.Heard.{EachHeardAround};
 ghost use Rattle.nl_workers.specs.Rounds.{IsFirstSeat};
 ghost use Rattle.nl_workers.specs.Table.{IsTableFor};
 ghost use Rattle.nl_spec_headline.specs.Course.{Course};
@@ -41,8 +42,9 @@ pub struct Ran<M: Nand> {
 }
 
 /// Opens the volume of a medium, runs the lines on it in turns of a lock, and closes it. The sentences of the headline hold of the course
-/// that the answers in the table are of, of which there is one for each line. A page is told as lost exactly where a turn that stages or does
-/// a background task met one, or closing did. Or no volume was opened, or memory was wanting for the lock: then the medium was only read.
+/// that the answers in the table are of, of which there is one for each line. The gate was told of each line before its turns and after
+/// its effect. A page is told as lost exactly where a turn that stages or does a background task met one, or closing did. Or no volume was
+/// opened, or memory was wanting for the lock: then the medium was only read.
 pub fn run_lines<Rt: Threads + Wait + Sync, M: Nand + Send, G: Gate + Sync>(
     rt: &Rt,
     alloc: Global,
@@ -56,6 +58,7 @@ pub fn run_lines<Rt: Threads + Wait + Sync, M: Nand + Send, G: Gate + Sync>(
         (stops_within M.Nand media r.media) (medium_seen M.Nand media) (medium_seen M.Nand r.media)
         tables.new.answers.rows r.lost r.worn r.charges course) }
     ensures rows { IfOk result (λ r. length tables.new.answers.rows ≡ length lines.now) }
+    ensures heard { IfOk result (λ r. EachHeardAround (G.heard gate.now) lines.now) }
     ensures lost { IfOk result (λ r. tables.new.answers.lost ≡ true → r.lost ≡ true) }
     ensures closing { IfOk result (λ r. TellsClosing ⟦<Device<M> as Counts>⟧ M.Nand lines.now r) }
     ensures lists { (tables.new.order ≡ tables.old.order) × (tables.new.syncs ≡ tables.old.syncs) }
@@ -94,6 +97,7 @@ fn run_opened<Rt: Threads + Wait + Sync, M: Nand + Send, G: Gate + Sync>(
     ensures closing { IfOk result (λ r. TellsClosing ⟦<Device<M> as Counts>⟧ M.Nand lines.now r) }
     ensures lists { (tables.new.order ≡ tables.old.order) × (tables.new.syncs ≡ tables.old.syncs) }
     ensures memory { IfErr result (λ v. v ≡ volume) }
+    ensures heard { IfOk result (λ r. EachHeardAround (G.heard gate.now) lines.now) }
 {
     let _lines = lines.as_slice();
     let count = volume.calls();

@@ -1,6 +1,6 @@
 -- The seven sentences on a run: as what it opened, the one order of its lines, their answers, the printed text, the syncs, what a stop
 -- leaves, and what the medium holds at the end. All of them speak of one course.
-use Rattle.std.specs.Prelude.{◌≡◌, ℕ, ◌+◌, ◌-◌, ◌<◌, ◌^◌, Bool, false, List, map, filter_map, slice_get, IfSome, Ok}
+use Rattle.std.specs.Prelude.{◌≡◌, ℕ, ◌+◌, ◌-◌, ◌<◌, ◌≤◌, ◌^◌, Bool, false, List, map, filter_map, slice_get, IfSome, Ok}
 use Rattle.nl_field.specs.Medium.{shape_of_image}
 use Rattle.nl_field.specs.Page.{Image}
 use Rattle.nl_field.specs.Scan.{next_stamp_of}
@@ -29,11 +29,17 @@ pub record IsYoung (image : Image) (before now : Counts) (course : Course) : Typ
 
 -- ---- the start
 
--- The image is sound, and as the tree after the count of calls with which the volume opened.
+-- The image is consistent, and represents the tree after the count of calls with which the volume opened.
 pub record OpensAs (image : Image) (course : Course) : Type 0 where
   pub sound : ConsistentAs image course.count course.tree
   pub shape : course.shape ≡ shape_of_image image
   pub next_stamp : course.next_stamp ≡ next_stamp_of image
+
+-- Over any medium the volume opens with no greater count of calls than a super page can spell, and with a next write sequence number behind
+-- one that a page can spell. Which, only a medium tells that tells its contents.
+pub record BeginsSpelled (course : Course) : Type 0 where
+  pub count : course.count < 2 ^ 63
+  pub next_stamp : (0 < course.next_stamp) × (course.next_stamp ≤ 2 ^ 63)
 
 -- ---- the order
 
@@ -70,15 +76,15 @@ TellsSyncs before now course syncs = AreSyncs course.count before.clock now.cloc
 
 -- ---- stops
 
--- What `stops` says of the run: what a stop at any moment leaves was left before the call, or is sound, and as the tree after a prefix of
--- the list that has every call made durable by then. What there was at the start is so too, at that moment.
+-- What `stops` says of the run: what a stop at any moment leaves was left before the call, or is consistent, and represents the tree after
+-- a prefix of the list that has every call made durable by then. What there was at the start is so too, at that moment.
 pub record CrashesLeavePrefixes (image : Image) (before : Counts) (stops : Run → Type 0) (course : Course) : Type 0 where
   pub starts : OpensAsPrefix ConsistentAs (run_in course) before.clock image
   pub leaves : stops (run_in course)
 
 -- ---- the end
 
--- The medium ends sound, and as the tree after all calls of the list.
+-- The medium ends consistent, and represents the tree after all calls of the list.
 abbrev pub EndsAfterAll : Image → Course → Type 0
 EndsAfterAll image course = ConsistentAs image (count_after course) (tree_after course)
 
@@ -89,9 +95,10 @@ EndsAfterAll image course = ConsistentAs image (count_after course) (tree_after 
 pub record RunsLines (tells : Type 0) (lines : List Line) (stops : Run → Type 0) (medium medium' : Medium) (order : List Ordered)
     (syncs : List Synced) (worn : Bool) (course : Course) : Type 0 where
   pub opens : tells → OpensAs medium.contents course
+  pub begins : BeginsSpelled course
   pub order_is : IsOneOrder lines order course
   pub answers : AnswersByTree tells medium.counts medium'.counts course
-  pub syncs_are : count_after course < 2 ^ 63 → TellsSyncs medium.counts medium'.counts course syncs
+  pub syncs_are : TellsSyncs medium.counts medium'.counts course syncs
   pub stopped : tells → IsYoung medium.contents medium.counts medium'.counts course
       → CrashesLeavePrefixes medium.contents medium.counts stops course
   pub ends : tells → IsYoung medium.contents medium.counts medium'.counts course → (MediumRose medium medium' → ⊥) → worn ≡ false

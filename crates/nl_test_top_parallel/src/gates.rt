@@ -42,6 +42,8 @@ impl Holding {
 }
 
 impl Gate for Holding {
+    ghost heard = { λ gate worker line place. Unit {0} };
+
     fn at(&self, worker: u8, line: u32, place: GatePlace) {
         if worker == 1 && line == 9 && place == GatePlace::After {
             self.done.fetch_add(1, Ordering::SeqCst);
@@ -83,6 +85,8 @@ impl Chores {
 }
 
 impl Gate for Chores {
+    ghost heard = { λ gate worker line place. Unit {0} };
+
     fn at(&self, worker: u8, line: u32, place: GatePlace) {
         if worker == 8 && place == GatePlace::After {
             self.cleaned.fetch_add(1, Ordering::SeqCst);

@@ -39,6 +39,8 @@ impl Meeting {
 }
 
 impl Gate for Meeting {
+    ghost heard = { λ gate worker line place. Unit {0} };
+
     fn at(&self, worker: u8, _line: u32, place: GatePlace) {
         if worker < 2 && place == GatePlace::Before {
             self.here.fetch_add(1, Ordering::SeqCst);
@@ -74,6 +76,8 @@ impl Overtaking {
 }
 
 impl Gate for Overtaking {
+    ghost heard = { λ gate worker line place. Unit {0} };
+
     fn at(&self, worker: u8, line: u32, place: GatePlace) {
         if worker == 1 && place == GatePlace::After {
             self.finished.fetch_add(1, Ordering::SeqCst);
@@ -110,6 +114,8 @@ impl Chores {
 }
 
 impl Gate for Chores {
+    ghost heard = { λ gate worker line place. Unit {0} };
+
     fn at(&self, worker: u8, _line: u32, place: GatePlace) {
         if worker == 8 && place == GatePlace::After {
             self.cleaned.fetch_add(1, Ordering::SeqCst);
@@ -120,6 +126,52 @@ impl Gate for Chores {
         if worker == 0 && place == GatePlace::Before {
             let both = is_reached(&self.cleaned, 1) && is_reached(&self.handled, 1);
             self.both.store(both, Ordering::SeqCst);
+        }
+    }
+}
+
+/// Counts what it is told of worker 0, whose lines are 1, 9, 17 and so on: of each line first that it begins, then that it has staged, and
+/// then that its effect is done.
+#[derive(Drop)]
+pub struct Counting {
+    told: AtomicU32,
+    wrong: AtomicU32,
+}
+
+impl Counting {
+    /// A gate that was told nothing yet.
+    pub fn new() -> Counting {
+        Counting {
+            told: AtomicU32::new(0),
+            wrong: AtomicU32::new(0),
+        }
+    }
+
+    /// How many steps of worker 0 it was told of.
+    pub fn told(&self) -> u32 {
+        self.told.load(Ordering::SeqCst)
+    }
+
+    /// How many of them were not the step that was due.
+    pub fn wrong(&self) -> u32 {
+        self.wrong.load(Ordering::SeqCst)
+    }
+}
+
+impl Gate for Counting {
+    ghost heard = { λ gate worker line place. Unit {0} };
+
+    fn at(&self, worker: u8, line: u32, place: GatePlace) {
+        if worker == 0 {
+            let told = self.told.fetch_add(1, Ordering::SeqCst);
+            let due = match told % 3 {
+                0 => GatePlace::Before,
+                1 => GatePlace::Staged,
+                _ => GatePlace::After,
+            };
+            if place != due || line / 8 != told / 3 {
+                self.wrong.fetch_add(1, Ordering::SeqCst);
+            }
         }
     }
 }

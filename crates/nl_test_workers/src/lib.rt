@@ -4,7 +4,7 @@
 mod gates;
 mod run;
 
-pub use gates::{Chores, Meeting, Overtaking};
+pub use gates::{Chores, Counting, Meeting, Overtaking};
 pub use run::run_script;
 
 #[cfg(test)]

@@ -26,6 +26,15 @@ fn a_worker_that_has_staged_is_overtaken_by_five_lines(rt: HostRuntime) -> Resul
 }
 
 #[test]
+fn a_gate_is_told_once_of_each_step_of_a_worker(rt: HostRuntime) -> Result<(), Fail> {
+    let lines = sync_script(rt.alloc(), 34)?;
+    let gate = Counting::new();
+    let answers = run_script(&rt, rt.alloc(), &lines, &gate).ok_or("memory")?;
+    assert_eq!(rt; (answers.len(), gate.told(), gate.wrong()), (34, 15, 0));
+    Ok(())
+}
+
+#[test]
 fn the_cleaner_and_the_handler_act_beside_a_held_worker(rt: HostRuntime) -> Result<(), Fail> {
     let lines = sync_script(rt.alloc(), 1)?;
     let gate = Chores::new();

@@ -24,7 +24,7 @@ module _ (tells : Type 0) (lines : List Line) (leaves : Leaving → Type 0) (sin
     (runs : LinesRan tells lines (λ run. leaves (prefixes_of run)) medium medium' rows lost worn charges course) (opened : count ≡ course.count) where
   -- what is told of the rows shows the course
   shows_it : (what : Told) → PlacedRowsAreARun → PrintsCourse what tells course (told_text what count charges rows)
-  shows_it Answers placed = λ few. ap (λ (n : ℕ). rows_text n rows) opened ∙ placed course.count rows (runs.places few) ∙ ap (run_text course.count) runs.said
+  shows_it Answers placed = ap (λ (n : ℕ). rows_text n rows) opened ∙ placed course.count rows runs.places ∙ ap (run_text course.count) runs.said
   shows_it Summary placed = record {
     charges = charges;
     text_is = ap (λ (answered : List Answered). summary_text answered charges.pages charges.nodes charges.meta) runs.said;

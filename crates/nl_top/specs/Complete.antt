@@ -25,7 +25,7 @@ NoFaultAnswered order = list_any (λ o. is_some o.fault) order ≡ false
 abbrev pub RunCompletes : ℕ → List Ordered → Type 0
 RunCompletes status order = ((status ≡ 0) × NoFaultAnswered order) ⊎ (status ≡ 6)
 
--- Each command is carried out: a volume is made; a medium that starts sound is checked, and its paths and its report are printed; and while
+-- Each command is carried out: a volume is made; a medium that starts consistent is checked, and its paths and its report are printed; and while
 -- counts last, the script that the source has left is run on it, and a soak, and no answer is a fault reply.
 abbrev pub CarriesOut : Option Command → Type 0 → Stream → Medium → Medium → List Ordered → ℕ → Type 0
 CarriesOut None tells source medium medium' order status = ⊤

@@ -1,8 +1,8 @@
 -- How a command ends that runs lines, with which status, text and cause, and what it then says of source, sink and medium, and of what a
 -- stop leaves.
-use Rattle.std.specs.Prelude.{◌≡◌, ℕ, ◌<◌, ◌^◌, Bool, List, codes}
+use Rattle.std.specs.Prelude.{◌≡◌, ℕ, Bool, List, codes}
 use Rattle.nl_field.specs.CrashStates.{Rose}
-use Rattle.nl_spec_headline.specs.Course.{Course, count_after, text_in}
+use Rattle.nl_spec_headline.specs.Course.{Course, text_in}
 use Rattle.nl_spec_headline.specs.Headline.{ReadsScript, RunsLines}
 use Rattle.nl_spec_headline.specs.Status.{DoneStatus, HaveCauses, RunFailed}
 use Rattle.nl_spec_headline.specs.Streams.{Medium, Prints, Stream}
@@ -15,9 +15,9 @@ use Rattle.nl_tree.specs.declared.call.Line.{Line}
 use Rattle.nl_cmd_words.specs.Ends.{EndsBefore, NotOpened, RefusesScript}
 use Rattle.nl_top.specs.Leaving.{Leaving, nothing_new, prefixes_of}
 
--- what is printed of a course by a run: its text, where places have not ended
+-- what is printed of a course by a run: its text
 abbrev pub PrintsAnswers : Course → List ℕ → Type 0
-PrintsAnswers course text = count_after course < 2 ^ 63 → text ≡ text_in course
+PrintsAnswers course text = text ≡ text_in course
 
 -- The lines were run, and a text was printed that shows their one course.
 pub record Ran (tells : Type 0) (lines : List Line) (shows : Course → List ℕ → Type 0) (leaves : Leaving → Type 0) (sink sink' : Stream) (medium medium' : Medium) (order : List Ordered) (syncs : List Synced) (status : ℕ) : Type 0 where

@@ -20,3 +20,4 @@ pub mod Ending
 pub mod Serving
 pub mod LostStations
 pub mod Sending
+pub mod Hearing

@@ -16,12 +16,13 @@ use Rattle.nl_workers.specs.Duties.{HasServed, IsOutbox, MayClean, HasCleaned, M
 use Rattle.nl_workers.specs.declared.duty.Cleaner.{Cleaner}
 use Rattle.nl_workers.specs.declared.duty.Handler.{Handler}
 use Rattle.nl_workers.specs.declared.outbox.Outbox.{Outbox}
+use Rattle.nl_workers.proofs.Telling.{none_staged}
 use Rattle.nl_workers.proofs.Turned.{passed_placed, passed_effects, effects_none}
 use Rattle.nl_workers.proofs.Losing.{passed_losses, knows_self, knows_trans, knows_one}
 use Rattle.nl_workers.proofs.GoingOn.{goes_self, goes_trans, passed_goes}
 
 pub idles : (seat : SeatState) → HasServed seat seat
-idles seat = record { goes = goes_self seat; placed = λ lines h. h; done = λ m some. refl }
+idles seat = record { goes = goes_self seat; placed = λ lines h. h; done = λ m some. refl; staged = λ m. refl }
 
 pub serves : (seat s s' : SeatState) (answer : DutyAnswer) → HasServed seat s → HasPassed s (duty_entry answer) s' → HasServed seat s'
 serves seat s s' answer i p =
@@ -33,6 +34,7 @@ serves seat s s' answer i p =
           (record { staged = λ a. absurd (omega arith); effect = λ a. absurd (omega arith) }));
       done = λ m some. passed_effects seat.number m s s' (duty_entry answer) number p
           ∙ (effects_none m (entries_of seat.number s.seen) (duty_entry answer) some refl ∙ i.done m some);
+      staged = λ m. none_staged seat s s' (duty_entry answer) number p refl m ∙ i.staged m;
     }
 
 -- what one turn more tells of lost pages

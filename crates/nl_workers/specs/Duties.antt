@@ -8,6 +8,7 @@ use Rattle.nl_tree.specs.declared.call.Line.{Line}
 use Rattle.nl_tree.specs.declared.turn.Duty.{Duty}
 use Rattle.nl_tree.specs.declared.turn.Duty.TheVariants.{Copy}
 use Rattle.nl_turns.specs.Seat.{SeatState}
+use Rattle.nl_workers.specs.Gates.{stagings_of}
 use Rattle.nl_workers.specs.Placed.{EachPlaced, SeatAdvances, KnowsLosses, entries_of, effects_of, losses_by}
 use Rattle.nl_workers.specs.declared.duty.Cleaner.{Cleaner}
 use Rattle.nl_workers.specs.declared.duty.Handler.{Handler}
@@ -22,6 +23,7 @@ pub record HasServed (seat after : SeatState) : Type 0 where
   pub goes : SeatAdvances seat after
   pub placed : (lines : List Line) → EachPlaced lines seat.number seat.seen → EachPlaced lines seat.number after.seen
   pub done : (m : ℕ) → 0 < m → effects_of m (entries_of seat.number after.seen) ≡ effects_of m (entries_of seat.number seat.seen)
+  pub staged : (m : ℕ) → stagings_of m (entries_of seat.number after.seen) ≡ stagings_of m (entries_of seat.number seat.seen)
 
 -- The cleaner's end has sent the numbers from 1 to its last one, each once and in order, and nobody else sends.
 pub record IsOutbox (notices : Notices) (outbox : Outbox) : Type 0 where

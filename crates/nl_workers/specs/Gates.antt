@@ -1,5 +1,5 @@
 -- Of which steps a gate was told.
-use Rattle.std.specs.Prelude.{◌≡◌, ◌==◌, ℕ, ◌≤◌, nat_lt, ◌&&◌, Bool, if◌then◌else◌, count_by, List, Option, Some, None}
+use Rattle.std.specs.Prelude.{◌≡◌, ◌≢◌, ◌==◌, ℕ, ◌≤◌, nat_lt, ◌&&◌, Bool, if◌then◌else◌, count_by, List, Option, Some, None}
 use Rattle.nl_tree.specs.declared.call.Line.{Line}
 use Rattle.nl_tree.specs.declared.turn.DutyAnswer.{DutyAnswer}
 use Rattle.nl_tree.specs.declared.turn.DutyAnswer.TheVariants.{Did}
@@ -34,7 +34,8 @@ pub record GateWasTold (line : Line) (seat after : SeatState) (told : LineTold) 
   pub staged : told.staged ≡ (if has_staged line.line seat after then Some (told_of line Staged) else None)
   pub after_effect : told.after ≡ told_of line After
 
--- while a line stages
+-- while a line stages, its seat stages for no other
 pub record StagesSome (line : ℕ) (seat after : SeatState) (some : Bool) : Type 0 where
   pub none_gone : stagings_of line (entries_of seat.number seat.seen) ≤ stagings_of line (entries_of seat.number after.seen)
   pub some_is : some ≡ has_staged line seat after
+  pub others : (m : ℕ) → m ≢ line → stagings_of m (entries_of seat.number after.seen) ≡ stagings_of m (entries_of seat.number seat.seen)

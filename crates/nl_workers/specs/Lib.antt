@@ -6,6 +6,7 @@ pub mod Worked
 pub mod Crew
 pub mod Rounds
 pub mod Going
+pub mod Heard
 pub mod Duties
 pub mod Sending
 pub mod Kit

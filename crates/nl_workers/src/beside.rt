@@ -1,8 +1,9 @@
 //! The workers of an epoch run in threads, beside the loops of the cleaner and the handler.
-ghost use Rattle.std.specs.Prelude.{◌≡◌};
+ghost use Rattle.std.specs.Prelude.{◌≡◌, length};
 ghost use Rattle.std.specs.Thread.{IsSync};
 ghost use Rattle.nl_workers.specs.Crew.{MayStart, CrewHasRun};
 ghost use Rattle.nl_workers.specs.Duties.{MayClean, HasCleaned, MayHandle, HasHandled};
+ghost use Rattle.nl_workers.specs.Heard.{HeardOfCrew};
 
 use crate::crew::{Crew, run_crew};
 use crate::duty::{Cleaner, Handler, clean, handle};
@@ -35,6 +36,7 @@ pub(crate) fn run_beside<V: Served + Send, R: Threads + Wait + Sync, G: Gate + S
     ensures cleaned { HasCleaned V.tells notices.now crew.cleaner result.cleaner }
     ensures handled { HasHandled V.tells notices.now crew.handler result.handler }
     ensures ran { CrewHasRun V.tells lines.now span.from span.to crew.seat crew.stations.items result.seat result.stations.items }
+    ensures heard { HeardOfCrew (G.heard gate.now) lines.now span.from span.to (length crew.stations.items) crew.seat result.seat }
 {
     let Crew {
         seat,
@@ -53,7 +55,8 @@ pub(crate) fn run_beside<V: Served + Send, R: Threads + Wait + Sync, G: Gate + S
             requires { IsSync R.row × IsSync G.row × MayHandle turns.now.name notices.now handler × (seat.lock ≡ turns.now.name)
                 × MayStart V.tells lines.now span.from span.to seat stations.items }
             ensures { HasHandled V.tells notices.entry.now handler result.0
-                × CrewHasRun V.tells lines.entry.now span.from span.to seat stations.items result.1.0 result.1.1.items }
+                × CrewHasRun V.tells lines.entry.now span.from span.to seat stations.items result.1.0 result.1.1.items
+                × HeardOfCrew (G.heard gate.entry.now) lines.entry.now span.from span.to (length stations.items) seat result.1.0 }
         {
             handle_beside(
                 rt, turns, stop, notices, handler, seat, lines, span, stations, gate,
@@ -85,6 +88,7 @@ fn handle_beside<V: Served + Send, R: Threads + Wait + Sync, G: Gate + Sync>(
     requires may { MayStart V.tells lines.now span.from span.to seat stations.items }
     ensures handled { HasHandled V.tells notices.now handler result.0 }
     ensures ran { CrewHasRun V.tells lines.now span.from span.to seat stations.items result.1.0 result.1.1.items }
+    ensures heard { HeardOfCrew (G.heard gate.now) lines.now span.from span.to (length stations.items) seat result.1.0 }
 {
     join(
         rt,
@@ -95,7 +99,8 @@ fn handle_beside<V: Served + Send, R: Threads + Wait + Sync, G: Gate + Sync>(
         move || -> (TurnSeat, Vec<Station>)
             requires { IsSync R.row × IsSync G.row × (seat.lock ≡ turns.now.name)
                 × MayStart V.tells lines.now span.from span.to seat stations.items }
-            ensures { CrewHasRun V.tells lines.entry.now span.from span.to seat stations.items result.0 result.1.items }
+            ensures { CrewHasRun V.tells lines.entry.now span.from span.to seat stations.items result.0 result.1.items
+                × HeardOfCrew (G.heard gate.entry.now) lines.entry.now span.from span.to (length stations.items) seat result.0 }
         {
             let ran = run_crew(rt, turns, seat, lines, span, stations, gate);
             stop.raise();

@@ -1,8 +1,9 @@
 //! All who take turns at the lock, and the run of one epoch by its workers.
-ghost use Rattle.std.specs.Prelude.{◌≡◌, vec_len, vec_capacity};
+ghost use Rattle.std.specs.Prelude.{◌≡◌, length, vec_len, vec_capacity};
 ghost use Rattle.std.specs.Thread.{IsSync};
 ghost use Rattle.nl_workers.specs.Worked.{MayWork, HasWorked};
 ghost use Rattle.nl_workers.specs.Crew.{MayStart, CrewHasRun};
+ghost use Rattle.nl_workers.specs.Heard.{HeardOfWorker, HeardOfCrew};
 
 use crate::duty::{Cleaner, Handler};
 use crate::epoch::{Span, needs_thread};
@@ -38,6 +39,7 @@ pub(crate) fn run_crew<V: Served + Send, R: Threads + Wait + Sync, G: Gate + Syn
     requires may { MayStart V.tells lines.now span.from span.to seat stations.items }
     ensures ran { CrewHasRun V.tells lines.now span.from span.to seat stations.items result.0 result.1.items }
     ensures room { vec_capacity result.1 ≡ vec_capacity stations }
+    ensures heard { HeardOfCrew (G.heard gate.now) lines.now span.from span.to (length stations.items) seat result.0 }
 {
     let Some(station) = stations.pop() else {
         return (seat, stations);
@@ -56,13 +58,15 @@ pub(crate) fn run_crew<V: Served + Send, R: Threads + Wait + Sync, G: Gate + Syn
         rt,
         move || -> (TurnSeat, Station)
             requires { (own.lock ≡ turns.now.name) × MayWork V.tells lines.now worker span.from span.to own station }
-            ensures { HasWorked V.tells lines.entry.now worker span.from span.to own station result.0 result.1 }
+            ensures { HasWorked V.tells lines.entry.now worker span.from span.to own station result.0 result.1
+                × HeardOfWorker (G.heard gate.entry.now) lines.entry.now worker span.from span.to own result.0 }
         { work(rt, turns, own, lines, span, worker, station, gate) },
         move || -> (TurnSeat, Vec<Station>)
             requires { IsSync R.row × IsSync G.row × (seat.lock ≡ turns.now.name)
                 × MayStart V.tells lines.now span.from span.to seat stations.items }
             ensures { CrewHasRun V.tells lines.entry.now span.from span.to seat stations.items result.0 result.1.items
-                × (vec_capacity result.1 ≡ vec_capacity stations) }
+                × (vec_capacity result.1 ≡ vec_capacity stations)
+                × HeardOfCrew (G.heard gate.entry.now) lines.entry.now span.from span.to (length stations.items) seat result.0 }
         { run_crew(rt, turns, seat, lines, span, stations, gate) },
     );
     turns.join(&mut seat, own);

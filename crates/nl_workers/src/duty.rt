@@ -3,6 +3,7 @@ ghost use Rattle.std.specs.Prelude.{◌≡◌, ◌<◌, ◌||◌, true, false};
 ghost use Rattle.nl_turns.specs.Served.{duty_entry, is_lost_duty};
 ghost use Rattle.nl_workers.specs.Placed.{HasPassed};
 ghost use Rattle.nl_workers.specs.Gates.{told_of_task};
+ghost use Rattle.nl_workers.specs.declared.gate.GatePlace.TheVariants as place;
 ghost use Rattle.nl_workers.specs.Duties.{MayClean, HasCleaned, MayHandle, HasHandled, is_copy};
 
 use crate::gate::{Gate, GatePlace, Told, tell};
@@ -130,7 +131,8 @@ fn handle_turn<V: Served, R: Wait>(
 
 /// Tells the gate of a task that did something, and else lets others run.
 fn rest<G: Gate>(gate: &G, worker: u8, answer: DutyAnswer) -> Option<Told>
-    ensures { result ≡ told_of_task worker answer }
+    ensures told { result ≡ told_of_task worker answer }
+    ensures heard { answer ≡ DutyAnswer.Did → G.heard gate.now worker 0 place.After }
 {
     if matches!(answer, DutyAnswer::Did) {
         Some(tell(gate, worker, 0, GatePlace::After))

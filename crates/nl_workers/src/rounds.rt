@@ -8,6 +8,7 @@ ghost use Rattle.nl_workers.specs.Crew.{any_lost};
 ghost use Rattle.nl_workers.specs.Duties.{IsOutbox};
 ghost use Rattle.nl_workers.specs.Fresh.{AreFresh};
 ghost use Rattle.nl_workers.specs.Going.{IsUnderWay, MayGo, HasRunAll, TookSeatsBack, MayRunEpochs};
+ghost use Rattle.nl_workers.specs.Heard.{HeardSoFar, HeardOfLines};
 ghost use Rattle.nl_workers.specs.Rounds.{IsFirstSeat, EpochsRan};
 ghost use Rattle.nl_workers.specs.Spots.{rows_at, AreSpots};
 ghost use Rattle.nl_workers.specs.Table.{IsTableFor};
@@ -49,7 +50,9 @@ fn run_epochs<V: Served + Send, R: Threads + Wait + Sync, G: Gate + Sync>(
 ) -> Crew
     requires may { MayGo turns.now.name lines.now crew.seat }
     requires going { IsUnderWay V.tells turns.now.name notices.now lines.now crew.seat 0 crew }
-    ensures { IsUnderWay V.tells turns.now.name notices.now lines.now crew.seat (length lines.now) result }
+    requires heard { HeardSoFar (G.heard gate.now) lines.now 0 crew }
+    ensures going { IsUnderWay V.tells turns.now.name notices.now lines.now crew.seat (length lines.now) result }
+    ensures heard { HeardSoFar (G.heard gate.now) lines.now (length lines.now) result }
 {
     let mut from = 0;
     while from < lines.len() {
@@ -115,6 +118,7 @@ fn run_all<V: Served + Send, R: Threads + Wait + Sync, G: Gate + Sync>(
     ensures kit { IsOutbox notices.now result.1.passes.outbox × IsTaker notices.now result.1.passes.taker }
     ensures found { result.1.lost ≡ has_lost_page (entries result.0.seen) }
     ensures lost { V.tells → result.1.lost ≡ false }
+    ensures heard { HeardOfLines (G.heard gate.now) lines.now (entries result.0.seen) }
 {
     let _ = lines.as_slice();
     let first = give_seat(turns, &mut seat);
@@ -198,6 +202,7 @@ fn run_placed<V: Served + Send, R: Threads + Wait + Sync, G: Gate + Sync>(
     ensures kit { IsOutbox notices.now result.1.0.passes.outbox × IsTaker notices.now result.1.0.passes.taker }
     ensures found { result.1.0.lost ≡ has_lost_page (entries result.0.seen) }
     ensures lost { V.tells → result.1.0.lost ≡ false }
+    ensures heard { HeardOfLines (G.heard gate.now) lines.now (entries result.0.seen) }
 {
     let _ = lines.as_slice();
     let (seat, home) = run_all(
@@ -210,7 +215,8 @@ fn run_placed<V: Served + Send, R: Threads + Wait + Sync, G: Gate + Sync>(
 /// Runs the lines, epoch by epoch, by a thread for each worker that has lines, beside a cleaner and a handler. The least worker of an
 /// epoch is run by the caller, with the first seat of the lock. A worker takes turns that stage for its line, until one stages
 /// nothing, and then the turn of the line's effect. The table has the answers, and has lost a page exactly where a staging or a background
-/// task of the history has. It takes no memory.
+/// task of the history has. The gate was told of each line before its turns and after its effect, and of its stagings where the history
+/// has one that put a page in flight. It takes no memory.
 pub fn run_rounds<V: Served + Send, R: Threads + Wait + Sync, G: Gate + Sync>(
     rt: &R,
     turns: &Turns<V>,
@@ -227,6 +233,7 @@ pub fn run_rounds<V: Served + Send, R: Threads + Wait + Sync, G: Gate + Sync>(
     ensures found { answers.new.lost ≡ has_lost_page (entries seat.new.seen) }
     ensures lost { V.tells → answers.new.lost ≡ false }
     ensures kit { kit.new.room ≡ kit.old.room }
+    ensures heard { HeardOfLines (G.heard gate.now) lines.now (entries seat.new.seen) }
 {
     let Some(passes) = kit.passes.take() else {
         unreachable!()
@@ -245,6 +252,7 @@ pub fn run_rounds<V: Served + Send, R: Threads + Wait + Sync, G: Gate + Sync>(
             ensures kit { IsOutbox notices.entry.now result.1.0.passes.outbox × IsTaker notices.entry.now result.1.0.passes.taker }
             ensures found { result.1.0.lost ≡ has_lost_page (entries result.0.seen) }
             ensures lost { V.tells → result.1.0.lost ≡ false }
+            ensures heard { HeardOfLines (G.heard gate.entry.now) lines.entry.now (entries result.0.seen) }
         {
             run_placed(
                 rt, turns, stop, notices, lines, own, stations, passes, spare, gate,

@@ -5,7 +5,8 @@ ghost use Rattle.nl_tree.specs.declared.reply.Reply.TheVariants.{Done, Dir, Faul
 ghost use Rattle.nl_tree.specs.declared.turn.Stage.TheVariants.{Staged, Whole};
 ghost use Rattle.nl_turns.specs.Examples.{three_lines, from_five, five_turns};
 ghost use Rattle.nl_turns.specs.Served.{stage_entry, effect_entry};
-ghost use Rattle.nl_workers.specs.Examples.{first_row, has_staged_for, one_done};
+ghost use Rattle.nl_workers.specs.Examples.{first_row, has_staged_for, one_done, no_staging, nothing};
+ghost use Rattle.nl_workers.specs.Heard.{HeardOfLines};
 ghost use Rattle.nl_workers.specs.Placed.{EntryIsPlaced, KnowsLosses};
 ghost use Rattle.nl_workers.specs.Rounds.{IsRowAt};
 
@@ -42,4 +43,12 @@ pub fn lost_pages()
     ensures hidden { KnowsLosses false false 0 1 → ⊥ }
     ensures forgotten { KnowsLosses true false 1 1 → ⊥ }
     ensures made_up { KnowsLosses false true 1 1 → ⊥ }
+{}
+
+/// A gate that heard of each line before its turns and after its effect heard of a history in which no page was staged, and not of one in
+/// which one was. One that heard nothing heard of no history.
+pub fn hearings()
+    ensures quiet { HeardOfLines no_staging three_lines [] }
+    ensures not_told { HeardOfLines no_staging three_lines (stage_entry 1 Staged ∷ []) → ⊥ }
+    ensures deaf { HeardOfLines nothing three_lines [] → ⊥ }
 {}

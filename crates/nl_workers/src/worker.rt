@@ -1,5 +1,6 @@
 //! A worker answers its lines among a range of positions, one after the other.
 ghost use Rattle.std.specs.Prelude.{◌≡◌, ◌+◌, ◌<◌, length, false, IfSome, slice_get};
+ghost use Rattle.nl_workers.specs.Heard.{HeardOfWorker};
 ghost use Rattle.nl_workers.specs.Worked.{MayRunAt, MayWork, HasWorked};
 
 use crate::epoch::Span;
@@ -24,7 +25,8 @@ fn run_at<V: Served, R: Wait, G: Gate>(
     requires lock { seat.old.lock ≡ turns.now.name }
     requires at { at < length lines.now }
     requires may { MayRunAt V.tells lines.now worker at seat.old station.old }
-    ensures { HasWorked V.tells lines.now worker at (at + 1) seat.old station.old seat.new station.new }
+    ensures worked { HasWorked V.tells lines.now worker at (at + 1) seat.old station.old seat.new station.new }
+    ensures heard { HeardOfWorker (G.heard gate.now) lines.now worker at (at + 1) seat.old seat.new }
 {
     let line = lines.get(at);
     if line.worker != worker {
@@ -50,7 +52,8 @@ pub(crate) fn work<V: Served, R: Wait, G: Gate>(
 ) -> (TurnSeat, Station)
     requires lock { seat.lock ≡ turns.now.name }
     requires may { MayWork V.tells lines.now worker span.from span.to seat station }
-    ensures { HasWorked V.tells lines.now worker span.from span.to seat station result.0 result.1 }
+    ensures worked { HasWorked V.tells lines.now worker span.from span.to seat station result.0 result.1 }
+    ensures heard { HeardOfWorker (G.heard gate.now) lines.now worker span.from span.to seat result.0 }
 {
     for at in span.from..span.to {
         run_at(rt, turns, &mut seat, lines, at, worker, &mut station, gate);

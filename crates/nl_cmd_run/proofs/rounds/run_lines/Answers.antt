@@ -76,3 +76,6 @@ returns-in-Err-run_opened-clause-left g c =
       same_clock = ap m.clock same ∙ only.same_clock;
       same_write_faults = ap m.write_faults same ∙ only.same_write_faults;
     }
+
+pub returns-in-Ok-run_opened-clause-heard : goal.returns-in-Ok-run_opened-clause-heard
+returns-in-Ok-run_opened-clause-heard g c = c.in-Ok-run_opened.ensures.heard

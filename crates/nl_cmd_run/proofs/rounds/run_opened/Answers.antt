@@ -62,7 +62,7 @@ returns-clause-ran g c =
     let writes : N.write_faults media ≤ top = omega (arith, faults, faults_fit) in (
       course_of o rows,
       c.calls-count.ensures,
-      rounds_and_end G v0 v last.done opening.0 c.args.lines.now c.in-Ok.made.1 after rows opening.2 c.as_slice-lines.ensures.each ran stands.0
+      rounds_and_end G v0 v last.done opening.0 c.args.lines.now c.in-Ok.made.1 after rows opening.2 c.as_slice-lines.ensures.each c.as_slice-lines.ensures.small ran stands.0
           (CrashesSafely ConsistentAs (λ m i. N.left old m i) (λ m i. N.left media m i) (N.clock old) (N.clock media))
           (medium (N.geometry old) (N.contents old) (N.clock old) (N.read_faults old) (N.write_faults old)) (medium (N.geometry media) (N.contents media) (N.clock media) (N.read_faults media) (N.write_faults media))
           c.any_lost.result c.close-closed.result.worn c.charges_of-charges.result refl e.counts few writes c.requires.opened opening.1
@@ -101,3 +101,6 @@ returns-clause-closing g c =
       worn_is = refl;
       lost_is = c.any_lost.ensures ∙ ap (λ (b : Bool). closed.lost || b) (c.lost.ensures ∙ c.run_rounds.ensures.found);
     }
+
+pub returns-clause-heard : goal.returns-clause-heard
+returns-clause-heard g c = c.run_rounds.ensures.heard.around
