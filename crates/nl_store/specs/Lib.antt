@@ -1,0 +1,5 @@
+pub mod FileBytes
+pub mod Memory
+pub mod MemoryLaws
+pub mod PastBytes
+pub mod Store
