@@ -2,7 +2,7 @@
 use Rattle.std.specs.Prelude.{◌≡◌, ◌⊎◌, ◌↔◌, ℕ, ◌+◌, ◌≤◌, List, IsSome, None}
 use Rattle.std.specs.Option.{option_map}
 use Rattle.nl_field.specs.Page.{Page, Image}
-use Rattle.nl_nand.specs.Nand.{Cut, OperationLeaves, OperationCounted, CrashLeaves, CrashReaches, SameCrashStates}
+use Rattle.nl_nand.specs.Nand.{Cut, OperationLeaves, OperationCounted, CrashLeaves, SameCrashStates}
 use Rattle.nl_nand.specs.Plan.{Plan, OperationFails, begun}
 use Rattle.nl_nand.specs.Stop.{CutShort}
 use Rattle.nl_nand.specs.Record.{image_of, logged, IsCrashState, low_of_attempt, high_of_attempt, value_of_attempt}
@@ -61,6 +61,11 @@ abbrev pub room_formed : FormAnswer → ℕ → ℕ
 room_formed form.Done room = 0
 room_formed form.Failed room = room
 room_formed form.Memory room = room
+
+-- a crash within a finished operation may have left all that a cut one leaves
+abbrev pub CrashReaches : {M : Type 0} → (M → ℕ) → (M → Image) → (M → ℕ → Image → Type 0) → ℕ → ℕ → Page → M → M → WriteAnswer → Type 0
+CrashReaches clock contents left low high value old new answer =
+    answer ≡ write.Done → (c : Image) → Cut low high value (contents old) c → left new (clock old) c
 
 -- An operation was not begun: the stop has come, or memory was wanting and no room was reserved.
 pub record NotBegun (m n : MemNand) (answer : WriteAnswer) : Type 0 where

@@ -121,8 +121,3 @@ pub record CrashLeaves {M : Type 0} (clock : M → ℕ) (contents : M → Image)
   pub each : (m : ℕ) (c : Image) → left new m c → left old m c
       ⊎ (((m ≡ clock old) × Cut low high value (contents old) c) ⊎ ((m ≡ clock new) × (c ≡ contents new)))
   pub keeps : (m : ℕ) (c : Image) → left old m c → left new m c
-
--- a crash within a finished operation may have left all that a cut one leaves
-abbrev pub CrashReaches : {M : Type 0} → (M → ℕ) → (M → Image) → (M → ℕ → Image → Type 0) → ℕ → ℕ → Page → M → M → WriteAnswer → Type 0
-CrashReaches clock contents left low high value old new answer =
-    answer ≡ write.Done → (c : Image) → Cut low high value (contents old) c → left new (clock old) c

@@ -15,7 +15,8 @@ use nl_field::{FailList, Memory, PageBuf};
 use std::alloc::Global;
 
 /// A flash medium in memory. It keeps a record of its programs and erases, fails where its lists say so, and stops within one
-/// operation. From the stop on every call fails.
+/// operation. From the stop on every call fails. More than the trait asks, a stop within an operation that finished may have left all
+/// that one cut short leaves (`reached`), and a forming that failed has changed nothing but the count (`failed`).
 #[derive(Drop)]
 pub struct MemNand {
     alloc: Global,
@@ -224,9 +225,9 @@ impl Nand for MemNand {
     ghost use Rattle.std.specs.Prelude.{◌≡◌, ◌⊎◌, ◌↔◌, ◌+◌, ◌*◌, ◌<◌, ◌≤◌, ℕ, IsTrue, IsSome, refl};
     ghost use Rattle.nl_field.specs.Page.{Image, page_at, erased, written};
     ghost use Rattle.nl_field.specs.Numbers.{is_legal};
-    ghost use Rattle.nl_nand.specs.Nand.{IsBlank, ReadsMediumPage, CanProgram, OperationLeaves, FaultsCounted, Unchanged, MediumOnlyRead, OperationCounted, CrashLeaves, CrashReaches, block_start, block_end};
+    ghost use Rattle.nl_nand.specs.Nand.{IsBlank, ReadsMediumPage, CanProgram, OperationLeaves, FaultsCounted, Unchanged, MediumOnlyRead, OperationCounted, CrashLeaves, block_start, block_end};
     ghost use Rattle.nl_nand.specs.Plan.{ReadFails, after_read};
-    ghost use Rattle.nl_nand.specs.Memory.{geometry_of, contents_of, clock_of, read_faults_of, write_faults_of, memory_crash_states, log_of, plan_of, room_of, room_formed, NotBegun, OperationBegun};
+    ghost use Rattle.nl_nand.specs.Memory.{geometry_of, contents_of, clock_of, read_faults_of, write_faults_of, memory_crash_states, log_of, plan_of, room_of, room_formed, CrashReaches, NotBegun, OperationBegun};
     ghost use Rattle.nl_nand.specs.RecordLaws as laws;
 
     ghost tells = { Unit {0} };

@@ -3,7 +3,7 @@ ghost use Rattle.std.specs.Prelude.{◌≡◌, ◌⊎◌, ◌<◌, ◌≤◌, �
 ghost use Rattle.nl_field.specs.Page.{Image, page_at, erased, written};
 ghost use Rattle.nl_field.specs.Numbers.{is_legal};
 ghost use Rattle.nl_nand.specs.declared.geometry.Geometry.{Geometry as Numbers};
-ghost use Rattle.nl_nand.specs.Nand.{IsLegal, ImageOf, IsBlank, ReadsMediumPage, CanProgram, OperationLeaves, FaultsCounted, Unchanged, MediumOnlyRead, OperationCounted, CrashLeaves, CrashReaches, block_start, block_end};
+ghost use Rattle.nl_nand.specs.Nand.{IsLegal, ImageOf, IsBlank, ReadsMediumPage, CanProgram, OperationLeaves, FaultsCounted, Unchanged, MediumOnlyRead, OperationCounted, CrashLeaves, block_start, block_end};
 
 use crate::answers::{FormAnswer, ReadAnswer, WriteAnswer};
 use crate::geometry::Geometry;
@@ -52,7 +52,8 @@ pub trait Nand {
         ensures { result ≡ write_faults self.now };
 
     /// Gives the medium that geometry, with all pages erased. What a crash within it leaves is not said: once it is done,
-    /// the history of operations begins anew with these pages. After a failure the medium has its old geometry or that one.
+    /// the history of operations begins anew with these pages. After a failure the medium has its old geometry or that one, and what
+    /// a crash may have left was left before, or has all pages erased.
     fn form(&mut self, blocks: u32, pages: u32) -> FormAnswer
         requires { IsTrue (is_legal blocks pages) }
         ensures done { result ≡ FormAnswer.Done → geometry self.new ≡ record { blocks = blocks; pages = pages } }
@@ -61,7 +62,7 @@ pub trait Nand {
             → (m ≡ clock self.new) × (c ≡ contents self.new) }
         ensures failed { result ≡ FormAnswer.Failed
             → (geometry self.new ≡ geometry self.old) ⊎ (geometry self.new ≡ record { blocks = blocks; pages = pages }) }
-        ensures failed_told { tells → result ≡ FormAnswer.Failed → Unchanged geometry contents left self.old self.new }
+        ensures failed_left { tells → result ≡ FormAnswer.Failed → (m : ℕ) (c : Image) → left self.new m c → left self.old m c ⊎ IsBlank c }
         ensures memory { result ≡ FormAnswer.Memory → Unchanged geometry contents left self.old self.new }
         ensures clock { clock self.new ≡ clock self.old }
         ensures read_faults { read_faults self.new ≡ read_faults self.old }
@@ -80,7 +81,6 @@ pub trait Nand {
         requires erased { tells → CanProgram (contents self.old) page }
         ensures effect { tells → OperationLeaves page (page + 1) (written from.now) (contents self.old) result (contents self.new) }
         ensures crash { CrashLeaves clock contents left page (page + 1) (written from.now) self.old self.new }
-        ensures reached { tells → CrashReaches clock contents left page (page + 1) (written from.now) self.old self.new result }
         ensures counted { OperationCounted geometry clock read_faults write_faults self.old self.new result };
 
     /// Erases all pages of a block.
@@ -90,8 +90,6 @@ pub trait Nand {
             (contents self.old) result (contents self.new) }
         ensures crash { CrashLeaves clock contents left (block_start (geometry self.old) block)
             (block_end (geometry self.old) block) erased self.old self.new }
-        ensures reached { tells → CrashReaches clock contents left (block_start (geometry self.old) block)
-            (block_end (geometry self.old) block) erased self.old self.new result }
         ensures counted { OperationCounted geometry clock read_faults write_faults self.old self.new result };
 
     /// The numbers are legal, or both 0.

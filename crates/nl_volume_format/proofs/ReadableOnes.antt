@@ -9,6 +9,7 @@ use Rattle.nl_field.specs.SpareRecord.{fits_spare, spare_bytes, spare_rec_of}
 use Rattle.nl_field.specs.declared.spare.SpareRec.{SpareRec}
 use Rattle.nl_field.specs.declared.spare.SpareRec.TheVariants.{Virtual}
 use Rattle.nl_meta.proofs.Lists.{member-some, none_some, some_in}
+use Rattle.nl_nand.specs.Nand.{IsBlank}
 use Rattle.nl_spec_image.specs.Formatted.{formatted_root}
 use Rattle.nl_spec_image.specs.Fresh.{root_page}
 use Rattle.nl_volume_format.specs.Making.{IsBegun}
@@ -48,6 +49,10 @@ root_reads = ap (option_map (λ (rec : SpareRec). record { page = 0; rec = rec; 
 none_on : (n : ℕ) (page : Page) (r : Readable) → (page ≡ erased) ⊎ (page ≡ uncorrectable) → readable (n, page) ≡ Some r → ⊥
 none_on n page r (inl e) is = none_some r (ap (λ (p : Page). readable (n, p)) (sym e) ∙ is)
 none_on n page r (inr e) is = none_some r (ap (λ (p : Page). readable (n, p)) (sym e) ∙ is)
+
+-- none of an image with all pages erased
+pub none_on_blank : (image : Image) → IsBlank image → readable_pages image ≡ []
+none_on_blank image blank = no_member (readable_pages image) (λ r m. let q = at_page image r m in none_on q.0 (page_at image q.0) r (inl (blank q.0)) q.1)
 
 module _ (blocks pages : ℕ) (image : Image) (begun : IsBegun blocks pages image) where
   -- no page but the first two

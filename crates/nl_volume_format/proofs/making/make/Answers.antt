@@ -1,4 +1,4 @@
-use Rattle.std.proofs.Common.{◌≡◌, inr, ⊎_elim, ◌∙◌, ap, refl, sym, subst, arith}
+use Rattle.std.proofs.Common.{◌≡◌, inl, inr, ⊎_elim, ◌∙◌, ap, refl, sym, subst, arith}
 use Rattle.nl_field.specs.Page.{Image, PageBytes, page_at, written}
 use Rattle.nl_nand.specs.ImageLaws.{filled_cut}
 use Rattle.nl_nand.specs.Nand.{Cut, Filled, ImageOf, IsBlank}
@@ -7,6 +7,7 @@ use Rattle.nl_spec_image.specs.Formatted.{formatted_root, formatted_super}
 use Rattle.nl_spec_image.proofs.FormattedProofs.{formatted_is_consistent}
 use Rattle.nl_spec_image.proofs.FreshProofs.{limits}
 use Rattle.nl_volume_format.proofs.Begun.{HasRoot, blank_begun, root_cut, root_filled, rooted_begun, super_cut, super_filled}
+use Rattle.nl_volume_format.proofs.ReadableOnes.{none_on_blank}
 use Rattle.nl_volume_format.proofs.Safe.{makings_are_safe}
 use Rattle.nl_volume_format.proofs.making.make.Goals as goal
 
@@ -98,3 +99,7 @@ returns-clause-left g c = λ t m image left.
     (λ now. safe (super_cut c.args.blocks c.args.pages image fit i1 has
     (subst (λ (x : Image). Cut 1 2 (written (formatted_super c.args.blocks c.args.pages)) i1 x) (sym now.1) (subst (λ (b : PageBytes). Cut 1 2 (written b) i1 i2) super (c.in-Failed-program-2.ensures.effect t))))) is)
     (c.in-Failed-program-2.ensures.crash.each m image left))
+
+-- the forming failed
+pub returns-in-Failed-clause-left : goal.returns-in-Failed-clause-left
+returns-in-Failed-clause-left g c = λ t m image left. ⊎_elim (λ before. inl before) (λ blank. inr (inl (none_on_blank image blank))) (c.in-Failed.ensures.failed_left t refl m image left)
