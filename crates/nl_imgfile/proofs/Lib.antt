@@ -1,4 +1,6 @@
-mod FileStates
+mod DiskOperations
+mod DiskPages
+mod Forming
 mod HeaderBytes
-mod RecordBytes
 mod OnFileLiterals
+mod RecordBytes

@@ -1,15 +1,18 @@
-//! A flash medium in an image file: a header, then a record for each page. The file is read and written a record at a time,
-//! by position. No contract can say what a file holds, so this medium tells no contents.
+//! A flash medium in a store of bytes: a header, then a record for each page. The store is read and written a record at a time, by
+//! position. It tells its contents where the store tells its bytes; over a file that is not so.
 #![tactic(auto)]
 
 mod calls;
+mod disk_nand;
 mod file_nand;
+mod forming_nand;
 mod header;
 mod layout;
+mod opened_nand;
 mod page_record;
 pub mod rows;
-mod target;
-#[cfg(test)]
-mod write_order;
 
-pub use file_nand::{Attach, FileNand};
+pub use disk_nand::{Attach, DiskNand};
+pub use file_nand::{FileAttach, FileNand, attach_file, file_store};
+pub use forming_nand::FormingNand;
+pub use opened_nand::OpenedNand;

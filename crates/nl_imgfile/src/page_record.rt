@@ -1,5 +1,6 @@
-// The record of one page as an image file has it, in memory.
-ghost use Rattle.std.specs.Prelude.{◌≡◌, ◌≤◌, ◌+◌, ◌++◌, length, take, drop};
+// The record of one page as a store has it, in memory.
+ghost use Rattle.std.specs.Prelude.{◌≡◌, ◌≤◌, ◌<◌, ◌+◌, ◌++◌, length, take, drop, IsTrue};
+ghost use Rattle.nl_store.specs.Store.{window, CallFaultCounted, StoreOnlyRead};
 ghost use Rattle.nl_field.specs.Page.{written};
 ghost use Rattle.nl_field.specs.Spelling.{u64_at};
 ghost use Rattle.nl_nand.specs.Nand.{ReadsMediumPage};
@@ -9,11 +10,9 @@ use crate::layout::{RECORD, STATE};
 use nl_field::numbers::{put_u64, u64_from, zero};
 use nl_field::{Memory, PageBuf};
 use nl_nand::ReadAnswer;
+use nl_store::{FetchAnswer, Store};
 use std::alloc::Global;
-use std::fs::File;
-use std::io;
 use std::marker::Model;
-use std::os::unix::fs::FileExt;
 
 const MAIN: usize = 4096;
 
@@ -56,9 +55,15 @@ impl PageRecord {
         &self.bytes
     }
 
-    /// Reads the bytes that stand in a file from an offset on.
-    pub fn read_from(&mut self, file: &File, at: u64) -> io::Result<()> {
-        file.read_exact_at(&mut self.bytes, at)
+    /// Reads the 4168 bytes that stand in a store from a place on. `Short` where the store ends before the last of them.
+    pub fn fetch_from<S: Store>(&mut self, store: &mut S, at: u64) -> FetchAnswer
+        ensures told { IsTrue S.tells → result ≡ FetchAnswer.Done → self.new ≡ window at 4168 (S.bytes store.old) }
+        ensures only_fetches { StoreOnlyRead S.bytes S.moment S.left store.old store.new }
+        ensures short { IsTrue S.tells → result ≡ FetchAnswer.Short → length (S.bytes store.old) < at + 4168 }
+        ensures counted { CallFaultCounted (S.read_faults store.old) (S.read_faults store.new) (result ≡ FetchAnswer.Failed) }
+        ensures writes_stay { S.write_faults store.new ≡ S.write_faults store.old }
+    {
+        store.fetch(&mut self.bytes, at)
     }
 
     /// Becomes the record of an erased page.

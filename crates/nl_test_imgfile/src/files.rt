@@ -1,9 +1,9 @@
 // Image files in the folder where the tests run.
 ghost use Rattle.std.specs.Prelude.{◌≡◌, ◌<◌};
-ghost use Rattle.nl_imgfile.specs.FileMedium.{geometry_of};
+ghost use Rattle.nl_imgfile.specs.DiskMedium.{geometry_of};
 
 use nl_field::{PageBuf, shape_of};
-use nl_imgfile::{Attach, FileNand};
+use nl_imgfile::{FileAttach, FileNand, attach_file};
 use nl_nand::{FormAnswer, Geometry, Nand, ReadAnswer, WriteAnswer};
 use std::alloc::Global;
 use std::fs::{self, File, OpenOptions};
@@ -53,14 +53,22 @@ fn opened(rt: &HostRuntime, path: &str) -> Option<File> {
 }
 
 fn attached(alloc: Global, file: File) -> Option<FileNand> {
-    FileNand::attach(alloc, file).ok()
+    attach_file(alloc, file).ok()
 }
 
 /// The blocks and pages of a file.
 fn numbers(rt: &HostRuntime, path: &str) -> Option<(u32, u32)> {
     let media = attached(rt.alloc(), opened(rt, path)?)?;
     let Geometry { blocks, pages } = media.geometry();
+    drop(media);
     Some((blocks, pages))
+}
+
+fn has_numbers(rt: &HostRuntime, path: &str, blocks: u32, pages: u32) -> bool {
+    match numbers(rt, path) {
+        Some(is) => is.0 == blocks && is.1 == pages,
+        None => false,
+    }
 }
 
 fn form(media: &mut FileNand, blocks: u32, pages: u32) -> Seen {
@@ -162,38 +170,53 @@ fn answered(media: &mut FileNand, file: &File, step: Step, buf: &mut PageBuf) ->
     }
 }
 
-/// How many rows come before the first that is answered otherwise.
-fn same(media: &mut FileNand, file: &File, buf: &mut PageBuf, table: &[Row]) -> usize {
-    for row in 0..table.len() {
-        let (step, want) = table[row];
+/// Whether each row is answered so.
+fn same(media: &mut FileNand, file: &File, buf: &mut PageBuf, table: &[Row]) -> bool {
+    for row in table {
+        let (step, want) = *row;
         if answered(media, file, step, buf) != want {
-            return row;
+            return false;
         }
     }
-    table.len()
+    true
 }
 
-/// How many rows come before the first that the medium in a file answers otherwise, which another handle has open.
-fn same_in(alloc: Global, file: File, other: &File, table: &[Row]) -> Option<usize> {
+/// Whether the medium in a file answers each row so. Another handle has the file open.
+fn same_in(alloc: Global, file: File, other: &File, table: &[Row]) -> Option<bool> {
     let mut buf = PageBuf::new(alloc).ok()?;
     let mut media = attached(alloc, file)?;
-    Some(same(&mut media, other, &mut buf, table))
+    let is = same(&mut media, other, &mut buf, table);
+    drop(media);
+    Some(is)
 }
 
-fn on_old(rt: &HostRuntime, path: &str, table: &[Row]) -> Option<usize> {
-    let other = opened(rt, path)?;
-    same_in(rt.alloc(), opened(rt, path)?, &other, table)
+/// Whether the medium in the file answers each row so, with the file open once more.
+fn same_on(rt: &HostRuntime, path: &str, file: File, table: &[Row]) -> bool {
+    let Some(other) = opened(rt, path) else {
+        return false;
+    };
+    let is = same_in(rt.alloc(), file, &other, table);
+    matches!(is, Some(true))
 }
 
-fn on_new(rt: &HostRuntime, path: &str, table: &[Row]) -> Option<usize> {
+fn on_old(rt: &HostRuntime, path: &str, table: &[Row]) -> bool {
+    match opened(rt, path) {
+        Some(file) => same_on(rt, path, file, table),
+        None => false,
+    }
+}
+
+fn on_new(rt: &HostRuntime, path: &str, table: &[Row]) -> bool {
     let _ = fs::remove_file(rt, path);
     on_old(rt, path, table)
 }
 
-/// How many rows come before the first that the medium answers otherwise, where it has its file open for reading alone.
-fn on_unwritable(rt: &HostRuntime, path: &str, table: &[Row]) -> Option<usize> {
-    let other = opened(rt, path)?;
-    same_in(rt.alloc(), File::open(rt, path).ok()?, &other, table)
+/// The same, where the medium has its file open for reading alone.
+fn on_unwritable(rt: &HostRuntime, path: &str, table: &[Row]) -> bool {
+    match File::open(rt, path) {
+        Ok(file) => same_on(rt, path, file, table),
+        Err(_) => false,
+    }
 }
 
 fn writes(rt: &HostRuntime, path: &str, at: u64, bytes: &[u8]) -> bool {
@@ -210,8 +233,11 @@ fn resizes(rt: &HostRuntime, path: &str, len: u64) -> bool {
     }
 }
 
-fn length(rt: &HostRuntime, path: &str) -> Option<u64> {
-    Some(fs::metadata(rt, path).ok()?.len())
+fn is_long(rt: &HostRuntime, path: &str, len: u64) -> bool {
+    match fs::metadata(rt, path) {
+        Ok(metadata) => metadata.len() == len,
+        Err(_) => false,
+    }
 }
 
 fn removes(rt: &HostRuntime, path: &str) -> bool {
@@ -238,7 +264,7 @@ const PLACE: [Row<'static>; 9] = [
 #[test]
 fn a_page_reaches_its_place_in_the_file(rt: HostRuntime) {
     let path = "nl_imgfile_place.img";
-    let all = on_new(&rt, path, &PLACE) == Some(9) && removes(&rt, path);
+    let all = on_new(&rt, path, &PLACE) && removes(&rt, path);
     assert!(rt; all);
 }
 
@@ -275,10 +301,10 @@ const ANEW: [Row<'static>; 3] = [
 #[test]
 fn pages_stay_in_the_file(rt: HostRuntime) {
     let path = "nl_imgfile_stay.img";
-    let all = on_new(&rt, path, &FIRST) == Some(8)
-        && on_old(&rt, path, &SECOND) == Some(5)
-        && on_old(&rt, path, &AFTERWARDS) == Some(2)
-        && on_new(&rt, path, &ANEW) == Some(3)
+    let all = on_new(&rt, path, &FIRST)
+        && on_old(&rt, path, &SECOND)
+        && on_old(&rt, path, &AFTERWARDS)
+        && on_new(&rt, path, &ANEW)
         && removes(&rt, path);
     assert!(rt; all);
 }
@@ -292,10 +318,10 @@ const LARGER: [Row<'static>; 3] = [
 #[test]
 fn forming_drops_what_was_there(rt: HostRuntime) {
     let path = "nl_imgfile_again.img";
-    let all = on_new(&rt, path, &LARGER) == Some(3)
-        && numbers(&rt, path) == Some((33, 64))
-        && length(&rt, path) == Some(8_806_912)
-        && on_old(&rt, path, &ANEW) == Some(3)
+    let all = on_new(&rt, path, &LARGER)
+        && has_numbers(&rt, path, 33, 64)
+        && is_long(&rt, path, 8_806_912)
+        && on_old(&rt, path, &ANEW)
         && removes(&rt, path);
     assert!(rt; all);
 }
@@ -314,40 +340,38 @@ const SPOILT: [(u64, u8, u8); 8] = [
 
 /// Whether the file was never formed while the byte is another one.
 fn is_spoilt(rt: &HostRuntime, path: &str, at: u64, byte: u8, was: u8) -> bool {
-    writes(rt, path, at, &[byte])
-        && numbers(rt, path) == Some((0, 0))
-        && writes(rt, path, at, &[was])
+    writes(rt, path, at, &[byte]) && has_numbers(rt, path, 0, 0) && writes(rt, path, at, &[was])
 }
 
 /// Whether a file has its numbers with a whole header alone.
 fn is_header(rt: &HostRuntime, path: &str) -> bool {
-    numbers(rt, path) == Some((0, 0))
+    has_numbers(rt, path, 0, 0)
         && writes(rt, path, 0, HEAD)
         && resizes(rt, path, 4095)
-        && numbers(rt, path) == Some((0, 0))
+        && has_numbers(rt, path, 0, 0)
         && resizes(rt, path, 4096)
-        && numbers(rt, path) == Some((32, 32))
+        && has_numbers(rt, path, 32, 32)
 }
 
-/// How many bytes are spoilt before the first with which the file has numbers.
-fn spoilt(rt: &HostRuntime, path: &str) -> usize {
-    for (row, spoilt) in SPOILT.iter().enumerate() {
+/// Whether the file has no numbers with any of the bytes.
+fn each_spoilt(rt: &HostRuntime, path: &str) -> bool {
+    for spoilt in &SPOILT {
         let (at, byte, was) = *spoilt;
         if !is_spoilt(rt, path, at, byte, was) {
-            return row;
+            return false;
         }
     }
-    SPOILT.len()
+    true
 }
 
 #[test]
 fn a_file_with_another_header_was_never_formed(rt: HostRuntime) {
     let path = "nl_imgfile_header.img";
     let _ = fs::remove_file(&rt, path);
-    assert!(rt; is_header(&rt, path));
-    assert_eq!(rt; spoilt(&rt, path), 8);
-    let all = writes(&rt, path, 16, b"\x40")
-        && numbers(&rt, path) == Some((32, 64))
+    let all = is_header(&rt, path)
+        && each_spoilt(&rt, path)
+        && writes(&rt, path, 16, b"\x40")
+        && has_numbers(&rt, path, 32, 64)
         && removes(&rt, path);
     assert!(rt; all);
 }
@@ -368,7 +392,7 @@ const STATES: [Row<'static>; 10] = [
 #[test]
 fn other_states_are_uncorrectable(rt: HostRuntime) {
     let path = "nl_imgfile_state.img";
-    let all = on_new(&rt, path, &STATES) == Some(10) && removes(&rt, path);
+    let all = on_new(&rt, path, &STATES) && removes(&rt, path);
     assert!(rt; all);
 }
 
@@ -389,9 +413,9 @@ const WHOLE: [Row<'static>; 1] = [(Step::Read(1023), Seen::Erased)];
 #[test]
 fn a_cut_record_is_a_failed_read(rt: HostRuntime) {
     let path = "nl_imgfile_cut.img";
-    let all = on_new(&rt, path, &CUT) == Some(9)
+    let all = on_new(&rt, path, &CUT)
         && writes(&rt, path, 4_272_128, b"behind")
-        && on_old(&rt, path, &WHOLE) == Some(1)
+        && on_old(&rt, path, &WHOLE)
         && removes(&rt, path);
     assert!(rt; all);
 }
@@ -409,40 +433,60 @@ const FAILED: [Row<'static>; 7] = [
 #[test]
 fn a_failed_call_is_counted(rt: HostRuntime) {
     let path = "nl_imgfile_failed.img";
-    let all = on_new(&rt, path, &NEW) == Some(1)
-        && on_unwritable(&rt, path, &FAILED) == Some(7)
-        && numbers(&rt, path) == Some((32, 32))
+    let all = on_new(&rt, path, &NEW)
+        && on_unwritable(&rt, path, &FAILED)
+        && has_numbers(&rt, path, 32, 32)
         && removes(&rt, path);
     assert!(rt; all);
 }
 
 /// Whether a file that is open for writing alone is given back.
-fn is_given_back(rt: &HostRuntime, path: &str) -> Option<bool> {
-    let file = File::create(rt, path).ok()?;
-    let answer = FileNand::attach(rt.alloc(), file);
-    Some(matches!(answer, Err(Attach::Fault(_))))
+fn is_given_back(rt: &HostRuntime, path: &str) -> bool {
+    let Ok(file) = File::create(rt, path) else {
+        return false;
+    };
+    let answer = attach_file(rt.alloc(), file);
+    let is = matches!(answer, Err(FileAttach::Fault(_)));
+    drop(answer);
+    is
 }
 
 #[test]
 fn a_file_that_cannot_be_read_is_given_back(rt: HostRuntime) {
     let path = "nl_imgfile_unread.img";
-    let all = is_given_back(&rt, path) == Some(true) && removes(&rt, path);
+    let all = is_given_back(&rt, path) && removes(&rt, path);
     assert!(rt; all);
 }
 
+/// Whether the file is in use.
+fn is_used(alloc: Global, file: File) -> bool {
+    let answer = attach_file(alloc, file);
+    let is = matches!(answer, Err(FileAttach::InUse(_)));
+    drop(answer);
+    is
+}
+
+fn is_in_use(rt: &HostRuntime, path: &str) -> bool {
+    match opened(rt, path) {
+        Some(file) => is_used(rt.alloc(), file),
+        None => false,
+    }
+}
+
 /// Whether a second medium on the file is refused.
-fn is_in_use(rt: &HostRuntime, path: &str) -> Option<bool> {
-    let _first = attached(rt.alloc(), opened(rt, path)?)?;
-    let second = FileNand::attach(rt.alloc(), opened(rt, path)?);
-    Some(matches!(second, Err(Attach::InUse(_))))
+fn is_refused(rt: &HostRuntime, path: &str) -> Option<bool> {
+    let first = attached(rt.alloc(), opened(rt, path)?)?;
+    let is = is_in_use(rt, path);
+    drop(first);
+    Some(is)
 }
 
 #[test]
 fn a_file_has_one_medium_at_a_time(rt: HostRuntime) {
     let path = "nl_imgfile_locked.img";
-    let all = on_new(&rt, path, &NEW) == Some(1)
-        && is_in_use(&rt, path) == Some(true)
-        && numbers(&rt, path) == Some((32, 32))
+    let all = on_new(&rt, path, &NEW)
+        && is_refused(&rt, path) == Some(true)
+        && has_numbers(&rt, path, 32, 32)
         && removes(&rt, path);
     assert!(rt; all);
 }
