@@ -1,1 +1,2 @@
-pub mod OnFile
+mod Endings
+mod Stops

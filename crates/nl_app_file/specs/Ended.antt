@@ -1,5 +1,5 @@
--- How the words of a command line end on a medium that does not tell its contents, and which command makes a file.
-use Rattle.std.specs.Prelude.{ℕ, ⊤, Bool, true, false, List}
+-- How the words of a command line end on an image file, and which command makes one.
+use Rattle.std.specs.Prelude.{ℕ, ⊤, Bool, true, false, IsTrue, List, Option, None, Some}
 use Rattle.nl_cmd_words.specs.declared.command.Command.{Command}
 use Rattle.nl_cmd_words.specs.declared.command.Command.TheVariants.{Format}
 use Rattle.nl_spec_headline.specs.Streams.{Medium, Stream}
@@ -7,13 +7,18 @@ use Rattle.nl_spec_headline.specs.declared.lists.Ordered.{Ordered}
 use Rattle.nl_spec_headline.specs.declared.lists.Synced.{Synced}
 use Rattle.nl_top.specs.Ends.{CallEnds}
 
--- Nothing is said of what a stop leaves: the medium does not tell its contents.
+-- A file does not tell its bytes, so nothing is said of what a stop leaves.
 abbrev pub EndsOnFile : List (List ℕ) → Stream → Stream → Stream → Stream → ℕ → Type 0
 EndsOnFile words source source' sink sink' status =
     (before : Medium) × (after : Medium) × (order : List Ordered) × (syncs : List Synced)
-    × CallEnds ⊥ words (λ leaving. ⊤) source source' sink sink' before after order syncs status
+    × CallEnds (IsTrue false) words (λ leaving. ⊤) source source' sink sink' before after order syncs status
 
 -- only a format makes a file that is missing
 abbrev pub makes_a_file : Command → Bool
 makes_a_file (Format blocks pages) = true
 makes_a_file command = false
+
+-- the words are those of a command that forms the medium
+abbrev pub forms : Option Command → Bool
+forms None = false
+forms (Some command) = makes_a_file command

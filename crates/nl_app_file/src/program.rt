@@ -1,41 +1,22 @@
+// The words of a command line, answered on an image file.
 ghost use Rattle.std.specs.Prelude.{◌≡◌, Ok, None, IfOk, IfErr, OnErr};
-ghost use Rattle.nl_app_file.specs.Ended.{EndsOnFile, makes_a_file};
+ghost use Rattle.nl_app_file.specs.Ended.{EndsOnFile};
 ghost use Rattle.nl_cmd_words.specs.Command.{command_of};
 ghost use Rattle.nl_spec_headline.specs.Streams.{stream};
 
+use crate::on_store::{OnStore, answer_on, makes_a_file, tell_faulty};
 use nl_app_process::{Notice, open};
-use nl_field::FailList;
-use nl_imgfile::{Attach, FileNand};
+use nl_imgfile::{FileAttach, file_store};
 use nl_io::{Sink, Source, Words};
-use nl_nand::MemNand;
-use nl_top::{Command, Done, NoGate, command_of, nameless};
+use nl_top::command_of;
 use std::fs::File;
 use std::rt::Files;
 use std::sync::Wait;
 use std::thread::Threads;
 
-// Only a format makes a file that is missing.
-fn makes_a_file(command: Command) -> bool
-    ensures { result ≡ makes_a_file command }
-{
-    matches!(command, Command::Format(_, _))
-}
-
-fn status_of<M: Drop>(done: Done<M>) -> u8
-    ensures { result ≡ done.status }
-{
-    let Done {
-        status,
-        media: _,
-        syncs: _,
-        order: _,
-    } = done;
-    status
-}
-
-/// Answers the words of a command line on the image file at a path, and gives the status, which is that of `nameless` on a
-/// medium that does not tell its contents. Faulty words are told as such, and leave the file alone, whether it is there or not. Where
-/// the file cannot be opened or attached, nothing is read or printed.
+/// Answers the words of a command line on the image file at a path, as `answer_on` does on the store of its bytes, which does not tell
+/// them. Faulty words are told as such, and leave the file alone, whether it is there or not. Where the file cannot be opened, locked or
+/// attached, nothing is read or printed.
 pub fn answer<Rt: Files<File = File> + AllocGlobal + Threads + Wait + Sync, S: Source, K: Sink>(
     rt: &Rt,
     path: &str,
@@ -53,18 +34,16 @@ pub fn answer<Rt: Files<File = File> + AllocGlobal + Threads + Wait + Sync, S: S
     let alloc = rt.alloc();
     let command = match command_of(words) {
         Some(command) => command,
-        None => {
-            let media = MemNand::new(alloc, FailList::new(alloc), FailList::new(alloc), None);
-            return Ok(status_of(nameless(rt, alloc, words, src, sink, media, &NoGate)));
-        }
+        None => return Ok(tell_faulty(rt, alloc, words, src, sink)),
     };
     let Ok(file) = open(rt, path, makes_a_file(command)) else {
         return Err(Notice::MediumFault);
     };
-    match FileNand::attach(alloc, file) {
-        Ok(media) => Ok(status_of(nameless(rt, alloc, words, src, sink, media, &NoGate))),
-        Err(Attach::Fault(_)) => Err(Notice::MediumFault),
-        Err(Attach::InUse(_)) => Err(Notice::MediumInUse),
-        Err(Attach::Memory(_)) => Err(Notice::Memory),
-    }
+    let store = match file_store(file) {
+        Ok(store) => store,
+        Err(FileAttach::InUse(_)) => return Err(Notice::MediumInUse),
+        Err(_) => return Err(Notice::MediumFault),
+    };
+    let OnStore { status, store: _ } = answer_on(rt, alloc, words, src, sink, store);
+    status
 }

@@ -1,24 +1,16 @@
-use Rattle.std.proofs.Common.{◌∙◌, ℕ, subst, sym}
-use Rattle.nl_app_file.specs.Ended.{EndsOnFile}
-use Rattle.nl_spec_headline.specs.Streams.{stream}
-use Rattle.nl_app_file.proofs.OnFile.{faulty_on_file, on_file}
+use Rattle.std.proofs.Common.{◌∙◌, sym, refl, Result, Ok, Err, IfOk}
+use Rattle.nl_app_file.proofs.Endings.{faulty_on_file, on_file}
+use Rattle.nl_store.specs.contracts.file_store.FileStoreStore.TheImpl.{ghosts}
 use Rattle.nl_app_file.proofs.program.answer.Goals as goal
 
-pub returns-in-Ok-attach-clause-ended : goal.returns-in-Ok-attach-clause-ended
-returns-in-Ok-attach-clause-ended g c =
-    let s = g.S.Source in
-    let k = g.K.Sink in
-    let n = c.nameless-in-Ok-attach in
-    subst (λ (x : ℕ). EndsOnFile c.args.words.now (stream (s.left c.args.src.now) (s.faults c.args.src.now)) (stream (s.left n.new.src) (s.faults n.new.src))
-    (stream (k.taken c.args.sink.now) (k.faults c.args.sink.now)) (stream (k.taken n.new.sink) (k.faults n.new.sink)) x)
-    (sym c.status_of-in-Ok-attach.ensures) (on_file n.ensures.ended)
-
--- faulty words, on a medium in memory
 pub returns-in-None-clause-ended : goal.returns-in-None-clause-ended
 returns-in-None-clause-ended g c =
-    let s = g.S.Source in
-    let k = g.K.Sink in
-    let n = c.nameless in
-    subst (λ (x : ℕ). EndsOnFile c.args.words.now (stream (s.left c.args.src.now) (s.faults c.args.src.now)) (stream (s.left n.new.src) (s.faults n.new.src))
-    (stream (k.taken c.args.sink.now) (k.faults c.args.sink.now)) (stream (k.taken n.new.sink) (k.faults n.new.sink)) x)
-    (sym c.status_of.ensures) (faulty_on_file (sym c.command_of.ensures.command ∙ c.in-None.is) n.ensures.ended)
+    faulty_on_file (sym c.command_of.ensures.command ∙ c.in-None.is)
+    (record { two = c.tell_faulty.ensures.status; same = c.tell_faulty.ensures.source; prints = c.tell_faulty.ensures.prints })
+
+each : {X E : Type 0} (r : Result X E) (P Q : X → Type 0) → ((x : X) → P x → Q x) → IfOk r P → IfOk r Q
+each (Ok x) P Q by is = by x is
+each (Err e) P Q by is = tt
+
+pub returns-clause-ended : goal.returns-clause-ended
+returns-clause-ended g c = each c.answer_on-status.result.status _ _ (λ status ends. on_file ghosts refl ends) c.answer_on-status.ensures.ended
