@@ -16,7 +16,7 @@ use Rattle.nl_iface.specs.Stored.{NamedPage}
 use Rattle.nl_pseg.specs.Answers.{ReadsHeld}
 use Rattle.nl_pseg.specs.Pages.{Shown, TellsFound, shown_by, shown_with, stamp_at, stamp_found, stamp_in as named_stamp}
 use Rattle.nl_pseg.specs.declared.held.Held.{Held}
-use Rattle.nl_vseg.specs.Answers.{TellsFound as TellsStamp}
+use Rattle.nl_vseg.specs.Answers.{TellsStampFound as TellsStamp}
 use Rattle.nl_vseg.specs.Pages.{stamp_in as virtual_stamp}
 use Rattle.nl_device.specs.Shown.{live_page}
 use Rattle.nl_device.proofs.NamedReads.{reads_told}

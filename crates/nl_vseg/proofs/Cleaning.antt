@@ -10,7 +10,7 @@ use Rattle.nl_nand.specs.declared.nand.Nand.{Ghosts}
 use Rattle.nl_vseg.specs.Answers.{LosesPlaceStamp}
 use Rattle.nl_vseg.specs.Cleaning.{KeepsValues, LosesUntold, IsStateOfMedium}
 use Rattle.nl_vseg.specs.Copies.{CanCopy}
-use Rattle.nl_vseg.specs.Copying.{IsSettled, SetsFree, SameNumbers, SameFreeBlocks}
+use Rattle.nl_vseg.specs.Copying.{IsSettled, SetsFree, SameBlockNumbers, SameFreeBlocks}
 use Rattle.nl_vseg.specs.Effects.{KeepsMap}
 use Rattle.nl_vseg.specs.Layout.{LayoutHasUnmapped, IsLayout, IsLayoutOf, block_is_free, bound, closed, wears_of}
 use Rattle.nl_vseg.specs.Operations.{wears_after}
@@ -124,7 +124,7 @@ module _ {M : Type 0} (g : Ghosts M) where
   }
 
   -- from a state with the same places, and a table of the same numbers
-  pub values_from : {F : Type 0} (s u : State) {t : State} {old new : M} → u.places.items ≡ s.places.items → SameNumbers s.blocks u.blocks → wears_of u.blocks ≡ wears_of s.blocks
+  pub values_from : {F : Type 0} (s u : State) {t : State} {old new : M} → u.places.items ≡ s.places.items → SameBlockNumbers s.blocks u.blocks → wears_of u.blocks ≡ wears_of s.blocks
       → KeepsValues g F u t old new → KeepsValues g F s t old new
   values_from s u {t} {old} {new} places n wears k = record {
     stands = k.stands;
@@ -150,7 +150,7 @@ module _ {M : Type 0} (g : Ghosts M) where
   }
 
   -- nothing was done to the medium
-  pub values_still : {F : Type 0} (s u : State) {m : M} (spare : LayoutHasUnmapped (seen s)) → IsStateOfMedium g s m → IsStateOfMedium g u m → u.places.items ≡ s.places.items → SameNumbers s.blocks u.blocks
+  pub values_still : {F : Type 0} (s u : State) {m : M} (spare : LayoutHasUnmapped (seen s)) → IsStateOfMedium g s m → IsStateOfMedium g u m → u.places.items ≡ s.places.items → SameBlockNumbers s.blocks u.blocks
       → wears_of u.blocks ≡ wears_of s.blocks → (F → ⊥) → KeepsValues g F s u m m
   values_still s u {m} spare before stands places n wears not = record {
     stands = stands;
@@ -169,7 +169,7 @@ module _ {M : Type 0} (g : Ghosts M) where
       → CrashLeaves g.clock g.contents g.left (block_start (g.geometry old) block) (block_end (g.geometry old) block) erased old new
       → (g.tells → OperationLeaves (block_start (g.geometry old) block) (block_end (g.geometry old) block) erased (g.contents old) answer (g.contents new))
       → OperationCounted g.geometry g.clock g.read_faults g.write_faults old new answer
-      → t.places.items ≡ s.places.items → SameNumbers s.blocks t.blocks → wears_of t.blocks ≡ wears_after answer block (wears_of s.blocks)
+      → t.places.items ≡ s.places.items → SameBlockNumbers s.blocks t.blocks → wears_of t.blocks ≡ wears_after answer block (wears_of s.blocks)
       → IsVirtualFormed t → (g.tells → IsLayoutOf (g.contents new) (seen t)) → KeepsValues g (answer ≡ write.Failed) s t old new
   values_erased s t {old} {new} block answer formed fits holds within unmapped crash effect counted places n wears formed_then segment = record {
     stands = record { formed = formed_then; fits = fits_then _ _ (seen s) (seen t) counted.same_geometry n fits; segment = segment };

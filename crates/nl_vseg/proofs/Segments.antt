@@ -11,7 +11,7 @@ use Rattle.nl_blocks.specs.Table.{Table}
 use Rattle.nl_vseg.specs.Pages.{fact_of, main_of, IsBeside}
 use Rattle.nl_vseg.specs.Places.{place_of, value_at, map_of, IsUnmapped, PlacesShow, AreBelow}
 use Rattle.nl_vseg.specs.Layout.{Layout, bound, is_soiled, block_is_free, IsNextOfActive, LayoutTakesAsErased, IsLayoutOf, ArePlaces, IsLayout, room}
-use Rattle.nl_vseg.specs.Copying.{SameNumbers, SameFreeBlocks, SetsFree}
+use Rattle.nl_vseg.specs.Copying.{SameBlockNumbers, SameFreeBlocks, SetsFree}
 use Rattle.nl_vseg.specs.Effects.{ImageKeepsMap, KeepsMap}
 use Rattle.nl_vseg.specs.declared.place.Place.{Place}
 use Rattle.nl_vseg.proofs.Places.{in_block, block_of, beside_of, not_beside, block_below, behind_of, placed, set_place}
@@ -136,7 +136,7 @@ segment_fewer old new image places fewer seg = record {
 }
 
 -- a block is out of what is taken as erased
-pub taken_without : (old new : Layout) (block : ℕ) → SameNumbers old.table new.table → new.active ≡ old.active → new.used ≡ old.used
+pub taken_without : (old new : Layout) (block : ℕ) → SameBlockNumbers old.table new.table → new.active ≡ old.active → new.used ≡ old.used
     → ((b : ℕ) → block_is_free new.table b ≡ true → is_soiled new b ≡ false → (b ≡ block → ⊥) × (block_is_free old.table b ≡ true) × (is_soiled old b ≡ false))
     → (old.used < old.table.size → block ≡ old.active → ⊥)
     → (p : ℕ) → LayoutTakesAsErased new p → LayoutTakesAsErased old p × (p / old.table.size ≡ block → ⊥)
@@ -258,7 +258,7 @@ keeps_as {M} {clock} {contents} {left} {pages} {bounds} {more_pages} {more_bound
     subst (λ n. KeepsMap clock contents left n more_bounds m0 m1 a b) p (subst (λ n. KeepsMap clock contents left pages n m0 m1 a b) q k)
 
 -- beside one block, what was taken as erased still is
-pub taken_still : (old new : Layout) (block : ℕ) → SameNumbers old.table new.table → new.active ≡ old.active → ((old.active ≡ block → ⊥) → new.used ≡ old.used)
+pub taken_still : (old new : Layout) (block : ℕ) → SameBlockNumbers old.table new.table → new.active ≡ old.active → ((old.active ≡ block → ⊥) → new.used ≡ old.used)
     → ((b : ℕ) → (b ≡ block → ⊥) → block_is_free old.table b ≡ true → is_soiled old b ≡ false → (block_is_free new.table b ≡ true) × (is_soiled new b ≡ false))
     → (p : ℕ) → LayoutTakesAsErased old p → (p / old.table.size ≡ block → ⊥) → LayoutTakesAsErased new p
 taken_still old new block numbers active_is used_is free p taken ne =

@@ -4,7 +4,7 @@ use Rattle.nl_field.specs.declared.answers.VirtualWrite.TheVariants as write
 use Rattle.nl_nand.specs.declared.answers.WriteAnswer.TheVariants as page
 use Rattle.nl_nand.specs.declared.geometry.Geometry.{Geometry}
 use Rattle.nl_blocks.specs.Table.{Table, free_count}
-use Rattle.nl_vseg.specs.Copying.{HasHole, SetsFree, SameNumbers}
+use Rattle.nl_vseg.specs.Copying.{HasHole, SetsFree, SameBlockNumbers}
 use Rattle.nl_vseg.specs.Layout.{Layout, SameLayoutShape, block_is_free}
 use Rattle.nl_vseg.specs.Seen.{FitsLayout}
 use Rattle.nl_vseg.specs.declared.place.Place.{Place}
@@ -40,17 +40,17 @@ pub le_one : (n : ℕ) → n ≡ 1 → 1 ≤ n
 le_one n is = omega (arith, is)
 
 -- a medium of the same geometry fits a layout with the same numbers
-pub fits_then : (geometry geometry' : Geometry) (old new : Layout) → geometry' ≡ geometry → SameNumbers old.table new.table → FitsLayout geometry old → FitsLayout geometry' new
+pub fits_then : (geometry geometry' : Geometry) (old new : Layout) → geometry' ≡ geometry → SameBlockNumbers old.table new.table → FitsLayout geometry old → FitsLayout geometry' new
 fits_then geometry geometry' old new same n fits = subst (λ (x : Geometry). FitsLayout x new) (sym same) (record {
   pages = fits.pages ∙ sym n.same_size;
   blocks = subst (λ k. k ≤ geometry.blocks) (sym n.same_count) fits.blocks;
 })
 
 -- as many blocks of as many pages
-pub shape_of : (old new : Layout) → length new.places ≡ length old.places → SameNumbers old.table new.table → SameLayoutShape old new
+pub shape_of : (old new : Layout) → length new.places ≡ length old.places → SameBlockNumbers old.table new.table → SameLayoutShape old new
 shape_of old new count n = record { addresses = count; blocks = n.same_count; pages = n.same_size }
 
-pub numbers_then : {a b c : Table} → SameNumbers a b → SameNumbers b c → SameNumbers a c
+pub numbers_then : {a b c : Table} → SameBlockNumbers a b → SameBlockNumbers b c → SameBlockNumbers a c
 numbers_then first second = record {
   same_first = second.same_first ∙ first.same_first;
   same_size = second.same_size ∙ first.same_size;
@@ -85,5 +85,5 @@ one_left is few some = omega (arith, is, few, some)
 pub shape_then : {a b c : Layout} → SameLayoutShape a b → SameLayoutShape b c → SameLayoutShape a c
 shape_then first second = record { addresses = second.addresses ∙ first.addresses; blocks = second.blocks ∙ first.blocks; pages = second.pages ∙ first.pages }
 
-pub shape_after : {a b c : Layout} → length b.places ≡ length a.places → SameNumbers a.table b.table → SameLayoutShape b c → SameLayoutShape a c
+pub shape_after : {a b c : Layout} → length b.places ≡ length a.places → SameBlockNumbers a.table b.table → SameLayoutShape b c → SameLayoutShape a c
 shape_after count n second = record { addresses = second.addresses ∙ count; blocks = second.blocks ∙ n.same_count; pages = second.pages ∙ n.same_size }

@@ -7,7 +7,7 @@ use Rattle.nl_field.specs.declared.answers.VirtualWrite.TheVariants as write
 use Rattle.nl_vseg.specs.Copying.{SameFreeBlocks, SetsFree}
 use Rattle.nl_vseg.specs.Layout.{Layout, LayoutTakesAsErased, block_is_free, is_soiled, shown}
 use Rattle.nl_vseg.specs.Segment.{is_taken_as_erased}
-use Rattle.nl_vseg.specs.Tries.{OpensNext, SpendsNext, SpendsTried, TakesNoOther}
+use Rattle.nl_vseg.specs.Tries.{OpensNext, SpendsNext, SpendsTriedPage, TakesNoOther}
 use Rattle.nl_vseg.proofs.Places.{block_of}
 use Rattle.nl_vseg.proofs.Segments.{taken_cases}
 use Rattle.nl_vseg.proofs.Views.{blank_taken, taken_blank}
@@ -153,14 +153,14 @@ module _ (old mid new : Layout) (o : OpensNext write.Done old mid) (inside : mid
       ))
       (o.done refl)
 
-  pub opened_spends : (done : Type 0) → SpendsTried done (shown old) (shown new)
+  pub opened_spends : (done : Type 0) → SpendsTriedPage done (shown old) (shown new)
   opened_spends done = record {
     tried = inl (page, record { first = first; spent = not_blank new page s.spent });
     others = λ p is. ⊎_elim (λ was. inl (taken_blank old p was)) (λ w. inr w) (others p (blank_taken new p is));
   }
 
 -- no room was made
-pub failed_spends : (answer : VirtualWrite) (done : Type 0) (old new : Layout) → (answer ≡ write.Done → ⊥) → (done → ⊥) → OpensNext answer old new → SpendsTried done (shown old) (shown new)
+pub failed_spends : (answer : VirtualWrite) (done : Type 0) (old new : Layout) → (answer ≡ write.Done → ⊥) → (done → ⊥) → OpensNext answer old new → SpendsTriedPage done (shown old) (shown new)
 failed_spends answer done old new not undone o =
     let w = o.failed not in
     let full = w.0 in

@@ -25,11 +25,11 @@ ReadsStampInto stamp buf (read.Lost w f) = (stamp ≡ Some w) × (f ≡ w → �
 ReadsStampInto stamp buf read.Fault = stamp ≡ None → ⊥
 
 -- what a lost read tells to have found: the number that the spare bytes which were read spell, or 0
-abbrev pub TellsFound : PageBytes → VirtualRead → Type 0
-TellsFound buf read.Done = ⊤
-TellsFound buf read.Unmapped = ⊤
-TellsFound buf (read.Lost w f) = (f ≡ 0) ⊎ (f ≡ stamp_found buf)
-TellsFound buf read.Fault = ⊤
+abbrev pub TellsStampFound : PageBytes → VirtualRead → Type 0
+TellsStampFound buf read.Done = ⊤
+TellsStampFound buf read.Unmapped = ⊤
+TellsStampFound buf (read.Lost w f) = (f ≡ 0) ⊎ (f ≡ stamp_found buf)
+TellsStampFound buf read.Fault = ⊤
 
 -- What the read of an address answers that has this value: the value, and never Lost.
 abbrev pub ReadsValueInto : Option (ℕ × List ℕ) → PageBytes → VirtualRead → Type 0

@@ -18,14 +18,14 @@ abbrev pub mapped_in : ℕ → ℕ → List (Option Place) → ℕ
 mapped_in pages block places = count_by (is_in pages block) places
 
 -- two tables have as many blocks, with the same numbers
-pub record SameNumbers (old new : Table) : Type 0 where
+pub record SameBlockNumbers (old new : Table) : Type 0 where
   pub same_first : new.first ≡ old.first
   pub same_size : new.size ≡ old.size
   pub same_count : length new.blocks ≡ length old.blocks
 
 -- in two tables the same blocks are Free
 pub record SameFreeBlocks (old new : Table) : Type 0 where
-  pub numbers : SameNumbers old new
+  pub numbers : SameBlockNumbers old new
   pub free : (block : ℕ) → block_is_free new block ≡ block_is_free old block
   pub total : free_count new ≡ free_count old
 
@@ -45,7 +45,7 @@ pub record MarksPlace (place : Option Place) (old new : Table) : Type 0 where
 
 -- one block is Free now, or not, and the others are as before
 pub record SetsFree (block : ℕ) (free : Bool) (old new : Table) : Type 0 where
-  pub numbers : SameNumbers old new
+  pub numbers : SameBlockNumbers old new
   pub here : block_is_free new block ≡ free
   pub others : (other : ℕ) → (other ≡ block → ⊥) → block_is_free new other ≡ block_is_free old other
   pub total : free_count new + cond (block_is_free old block) 1 0 ≡ free_count old + cond free 1 0

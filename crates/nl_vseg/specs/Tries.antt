@@ -25,20 +25,20 @@ pub record OpensNext (answer : VirtualWrite) (old new : Layout) : Type 0 where
   pub same_size : new.table.size ≡ old.table.size
 
 -- the block was to be erased before use, and was erased since
-abbrev pub WasErased : Segment → Segment → ℕ → Type 0
-WasErased seg now block = (is_erased_first seg block ≡ true) × (is_erased_first now block ≡ false)
+abbrev pub BlockWasErased : Segment → Segment → ℕ → Type 0
+BlockWasErased seg now block = (is_erased_first seg block ≡ true) × (is_erased_first now block ≡ false)
 
 -- The page was tried, and is taken as erased no longer. It was the next one of the block that is written to, or where that was full
 -- one that was taken as erased, or one of a block that was erased first.
 pub record TriesPage (page : ℕ) (seg now : Segment) : Type 0 where
   pub first : ((0 < seg.left) × (page ≡ seg.next))
-      ⊎ ((seg.left ≡ 0) × ((is_taken_as_erased seg page ≡ true) ⊎ WasErased seg now (page / seg.pages)))
+      ⊎ ((seg.left ≡ 0) × ((is_taken_as_erased seg page ≡ true) ⊎ BlockWasErased seg now (page / seg.pages)))
   pub spent : is_taken_as_erased now page ≡ false
 
 -- A write that cleans nothing spends the page that it tried, whether or not that failed. Only where the block that is written to is
 -- full, and some block was to be erased first, it may have failed before it tried one.
-pub record SpendsTried (done : Type 0) (seg now : Segment) : Type 0 where
+pub record SpendsTriedPage (done : Type 0) (seg now : Segment) : Type 0 where
   pub tried : ((page : ℕ) × TriesPage page seg now)
       ⊎ ((done → ⊥) × (seg.left ≡ 0) × ((block : ℕ) × (is_erased_first seg block ≡ true)))
   pub others : (page : ℕ) → is_taken_as_erased now page ≡ true
-      → (is_taken_as_erased seg page ≡ true) ⊎ WasErased seg now (page / seg.pages)
+      → (is_taken_as_erased seg page ≡ true) ⊎ BlockWasErased seg now (page / seg.pages)

@@ -6,7 +6,7 @@ ghost use Rattle.nl_field.specs.SpareRecord.{spare_bytes, spare_rec_of};
 ghost use Rattle.nl_field.specs.declared.spare.SpareRec.TheVariants.{Virtual};
 ghost use Rattle.nl_nand.specs.Nand.{CanProgram, OperationLeaves, CrashLeaves, FaultsCounted, MediumOnlyRead, OperationCounted};
 ghost use Rattle.nl_vseg.specs.Pages.{fact_of, page_with, stamp_found};
-ghost use Rattle.nl_vseg.specs.Answers.{ReadsPage, TellsFound};
+ghost use Rattle.nl_vseg.specs.Answers.{ReadsPage, TellsStampFound};
 
 use nl_field::{PageBuf, SpareRec, VirtualRead, spare_into, spare_of};
 use nl_nand::{Nand, ReadAnswer, WriteAnswer};
@@ -30,7 +30,7 @@ pub fn read_page<M: Nand>(media: &mut M, page: u32, wanted: u64, buf: &mut PageB
     ensures stamp { result ≡ VirtualRead.Done → stamp_found buf.new ≡ wanted }
     ensures mapped { result ≡ VirtualRead.Unmapped → ⊥ }
     ensures lost { (w f : ℕ) → result ≡ VirtualRead.Lost w f → (w ≡ wanted) × (f ≡ wanted → ⊥) }
-    ensures found { TellsFound buf.new result }
+    ensures found { TellsStampFound buf.new result }
     ensures only_reads { MediumOnlyRead M.geometry M.contents M.clock M.write_faults M.left media.old media.new }
     ensures read_faults { FaultsCounted (M.read_faults media.old) (M.read_faults media.new) (result ≡ VirtualRead.Fault) }
 {

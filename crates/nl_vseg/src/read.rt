@@ -4,7 +4,7 @@ ghost use Rattle.nl_nand.specs.Nand.{FaultsCounted, MediumOnlyRead};
 ghost use Rattle.nl_vseg.specs.Places.{map_of, stamp_for};
 ghost use Rattle.nl_vseg.specs.Segment.{FitsSegment, IsSegmentOf};
 ghost use Rattle.nl_vseg.specs.Seen.{segment_of, IsVirtualFormed};
-ghost use Rattle.nl_vseg.specs.Answers.{ReadsStampInto, ReadsValueInto, TellsFound};
+ghost use Rattle.nl_vseg.specs.Answers.{ReadsStampInto, ReadsValueInto, TellsStampFound};
 
 use crate::pages::read_page;
 use crate::state::State;
@@ -19,7 +19,7 @@ impl State {
         requires vaddr { vaddr < length self.now.places.items }
         requires segment { M.tells → IsSegmentOf (M.contents media.old) (segment_of self.now) }
         ensures answer { ReadsStampInto (stamp_for self.now.places.items vaddr) buf.new result }
-        ensures found { TellsFound buf.new result }
+        ensures found { TellsStampFound buf.new result }
         ensures value { M.tells → ReadsValueInto (map_of self.now.places.items (M.contents media.old) vaddr) buf.new result }
         ensures only_reads { MediumOnlyRead M.geometry M.contents M.clock M.write_faults M.left media.old media.new }
         ensures read_faults { FaultsCounted (M.read_faults media.old) (M.read_faults media.new) (result ≡ VirtualRead.Fault) }

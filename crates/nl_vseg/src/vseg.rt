@@ -5,9 +5,9 @@ ghost use Rattle.nl_field.specs.Spelling.{is_stamp};
 ghost use Rattle.nl_nand.specs.Nand.{FaultsCounted, MediumOnlyRead};
 ghost use Rattle.nl_vseg.specs.Places.{map_of, place_of, stamp_for};
 ghost use Rattle.nl_vseg.specs.Segment.{FitsSegment, IsSegmentOf, SegmentHasUnmapped, SameSize, is_taken_as_erased, wear_of};
-ghost use Rattle.nl_vseg.specs.Answers.{ReadsStampInto, ReadsValueInto, TellsFound};
+ghost use Rattle.nl_vseg.specs.Answers.{ReadsStampInto, ReadsValueInto, TellsStampFound};
 ghost use Rattle.nl_vseg.specs.Cleaning.{LosesUntold};
-ghost use Rattle.nl_vseg.specs.Tries.{SpendsTried};
+ghost use Rattle.nl_vseg.specs.Tries.{SpendsTriedPage};
 ghost use Rattle.nl_vseg.specs.Writes.{StillServes, WritesValueAt, WritesDirectly};
 
 use crate::state::State;
@@ -99,7 +99,7 @@ impl VSeg {
         requires segment { M.tells → IsSegmentOf (M.contents media.old) self.old }
         ensures segment { self.new ≡ self.old }
         ensures answer { ReadsStampInto (stamp_for self.old.places vaddr) buf.new result }
-        ensures found { TellsFound buf.new result }
+        ensures found { TellsStampFound buf.new result }
         ensures value { M.tells → ReadsValueInto (map_of self.old.places (M.contents media.old) vaddr) buf.new result }
         ensures only_reads { MediumOnlyRead M.geometry M.contents M.clock M.write_faults M.left media.old media.new }
         ensures read_faults { FaultsCounted (M.read_faults media.old) (M.read_faults media.new) (result ≡ VirtualRead.Fault) }
@@ -127,7 +127,7 @@ impl VSeg {
             (result ≡ VirtualWrite.Fault) self.old self.new media.old media.new }
         ensures direct { 0 < self.old.room → result ≡ VirtualWrite.Done
             → WritesDirectly M.Nand vaddr stamp from.now.main self.old self.new media.old media.new }
-        ensures spends { 0 < self.old.room → SpendsTried (result ≡ VirtualWrite.Done) self.old self.new }
+        ensures spends { 0 < self.old.room → SpendsTriedPage (result ≡ VirtualWrite.Done) self.old self.new }
         ensures lost { LosesUntold M.tells self.old.places result }
     {
         self.state.write(media, vaddr, from, stamp)

@@ -7,7 +7,7 @@ ghost use Rattle.nl_vseg.specs.Segment.{FitsSegment, IsSegmentOf, SegmentHasUnma
 ghost use Rattle.nl_vseg.specs.Seen.{seen, segment_of, IsVirtualFormed};
 ghost use Rattle.nl_vseg.specs.Cleaning.{LosesUntold, IsStateOfMedium};
 ghost use Rattle.nl_vseg.specs.Putting.{PutsAtAddress};
-ghost use Rattle.nl_vseg.specs.Tries.{SpendsTried};
+ghost use Rattle.nl_vseg.specs.Tries.{SpendsTriedPage};
 ghost use Rattle.nl_vseg.specs.Writes.{StillServes, WritesValueAt, WritesDirectly};
 
 use crate::pages::program_page;
@@ -81,7 +81,7 @@ impl State {
             (segment_of self.old) (segment_of self.new) media.old media.new }
         ensures direct { 0 < room (seen self.old) → result ≡ VirtualWrite.Done
             → WritesDirectly M.Nand vaddr stamp from.now.main (segment_of self.old) (segment_of self.new) media.old media.new }
-        ensures spends { 0 < room (seen self.old) → SpendsTried (result ≡ VirtualWrite.Done) (segment_of self.old) (segment_of self.new) }
+        ensures spends { 0 < room (seen self.old) → SpendsTriedPage (result ≡ VirtualWrite.Done) (segment_of self.old) (segment_of self.new) }
         ensures lost { LosesUntold M.tells self.old.places.items result }
     {
         match self.make_room(media) {
