@@ -17,7 +17,7 @@ use Rattle.nl_calls_steps.specs.Calls.{RepresentsSomeTree}
 use Rattle.nl_calls_steps.proofs.WorkerLines.{same_count}
 use Rattle.nl_calls.specs.Answering.{AnswersCall}
 use Rattle.nl_test_core_still.specs.New.{IsNew}
-use Rattle.nl_test_calls_still.specs.Serving.{Serves, TakesStep}
+use Rattle.nl_test_calls_still.specs.Serving.{CoreServes, TakesStep}
 use Rattle.nl_test_calls_still.proofs.Stepped.{steps_of}
 
 -- ---- a new volume
@@ -27,7 +27,7 @@ no_line zero worker = refl
 no_line (suc n) zero = refl
 no_line (suc n) (suc worker) = no_line n worker
 
-pub serves_new : {D : Type 0} (g : Ghosts D) (v : Core D) → IsCore g v → IsNew g v → Serves g 0 v
+pub serves_new : {D : Type 0} (g : Ghosts D) (v : Core D) → IsCore g v → IsNew g v → CoreServes g 0 v
 serves_new g v core new = record {
   core = core;
   runs = λ tells. let k = new.runs tells in (k.0, empty_tree, k.1);
@@ -65,7 +65,7 @@ module _ {D : Type 0} (g : Ghosts D) (v : Core D) where
   counted_tree : (page_of_stamp : ℕ → Option PageOfStamp) (tree : Tree) → PreservesTree g v page_of_stamp tree → PreservesTree g (counted v) page_of_stamp tree
   counted_tree page_of_stamp tree k = record { pages = k.pages; extends = k.extends; runs = record { runs = k.runs.runs; shows = k.runs.shows; given = k.runs.given } }
 
-module _ {D : Type 0} (g : Ghosts D) (files : ℕ) (call : Call) (u v : Core D) (reply : Reply) (out : List ℕ) (more : ℕ) (was : Serves g files u) (core : IsCore g v) (x : AnswersCall g 0 call u v reply out more) where
+module _ {D : Type 0} (g : Ghosts D) (files : ℕ) (call : Call) (u v : Core D) (reply : Reply) (out : List ℕ) (more : ℕ) (was : CoreServes g files u) (core : IsCore g v) (x : AnswersCall g 0 call u v reply out more) where
   few : (worker : ℕ) → length (of_worker v.flight worker).pages ≤ 16
   few worker = by (cases_eq worker 0)
     where
@@ -85,7 +85,7 @@ module _ {D : Type 0} (g : Ghosts D) (files : ℕ) (call : Call) (u v : Core D) 
   some_tree : RepresentsSomeTree g (counted v)
   some_tree tells = let k = was.runs tells in let on = steps_on tells k.0 k.1 k.2 in (on.pages, (step_marked (g.shape u.device) k.1 (call, fault_in reply)).tree, on.runs)
 
-  pub serves_on : Serves g more (counted v)
+  pub serves_on : CoreServes g more (counted v)
   serves_on = record {
     core = counted_core g v core;
     runs = some_tree;

@@ -17,7 +17,7 @@ use Rattle.nl_calls.specs.Answering.{pages_of_files}
 
 -- The core is in order and runs as some tree, and its files have so many pages. Worker 0 has no line, and no worker has more pages in
 -- flight than a line may.
-pub record Serves {D : Type 0} (g : Ghosts D) (files : ℕ) (v : Core D) : Type 0 where
+pub record CoreServes {D : Type 0} (g : Ghosts D) (files : ℕ) (v : Core D) : Type 0 where
   pub core : IsCore g v
   pub runs : RepresentsSomeTree g v
   pub counted : files ≡ pages_of_files g v

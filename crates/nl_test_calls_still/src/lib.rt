@@ -1,8 +1,12 @@
-//! File calls of one worker over the second device: a core over a memory whose pages never move answers them as a plain tree does.
+//! A core over the second device, whose memory has pages that never move: it programs, drops and commits, and answers the file calls of
+//! one worker as a plain tree does.
 #![tactic(auto)]
 
 #[cfg(test)]
+mod filling;
+#[cfg(test)]
 mod rows;
+#[cfg(test)]
+mod running;
+#[cfg(test)]
 mod serving;
-
-pub use serving::{begin, serve};

@@ -1,6 +1,6 @@
 // Worked rows of one worker on a new volume of 32 blocks of 32 pages.
 ghost use Rattle.std.specs.Prelude.{IfOk, IfSome};
-ghost use Rattle.nl_test_calls_still.specs.Serving.{Serves};
+ghost use Rattle.nl_test_calls_still.specs.Serving.{CoreServes};
 
 use crate::serving::{begin, serve};
 use nl_core::Core;
@@ -129,8 +129,8 @@ fn answered(
     out: &mut ReplyBuf,
     page: &mut PageBuf,
 ) -> Result<Option<u32>, Memory>
-    requires serves { Serves ⟦<Still as Counts>⟧ files core.old }
-    ensures { IfOk result (λ o. IfSome o (λ f. Serves ⟦<Still as Counts>⟧ f core.new)) }
+    requires serves { CoreServes ⟦<Still as Counts>⟧ files core.old }
+    ensures { IfOk result (λ o. IfSome o (λ f. CoreServes ⟦<Still as Counts>⟧ f core.new)) }
 {
     let (line, reply, bytes) = *row;
     let lines = match script_of(alloc, line.as_bytes()) {
@@ -151,7 +151,7 @@ fn answered(
 
 /// The place of the first row that is not answered as it has it, where they come one after the other. None where each is.
 fn first_wrong(alloc: Global, core: &mut Core<Still>, rows: &[Row]) -> Result<Option<usize>, Memory>
-    requires serves { Serves ⟦<Still as Counts>⟧ 0 core.old }
+    requires serves { CoreServes ⟦<Still as Counts>⟧ 0 core.old }
 {
     let mut out = ReplyBuf::new(alloc)?;
     let mut page = PageBuf::new(alloc)?;

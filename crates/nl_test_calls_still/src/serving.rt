@@ -1,23 +1,23 @@
 // A core over a new volume, and the lines of its one worker, one after the other.
 ghost use Rattle.std.specs.Prelude.{◌≡◌, ◌≤◌, ◌^◌, IfOk, IfSome};
 ghost use Rattle.nl_calls.specs.Answering.{AnswersOn};
-ghost use Rattle.nl_test_calls_still.specs.Serving.{Serves, TakesStep};
+ghost use Rattle.nl_test_calls_still.specs.Serving.{CoreServes, TakesStep};
 ghost use Rattle.nl_test_core_still.specs.New.{IsNew};
 ghost use Rattle.nl_tree.specs.Calls.{IsLine};
 
+use crate::running::is_read_only;
 use nl_calls::{Answer, answer_call};
 use nl_core::Core;
 use nl_field::{Memory, PageBuf};
 use nl_iface::{Counts, MovingPages};
 use nl_test_core_still::open_least;
-use nl_test_core_still::running::is_read_only;
 use nl_testkit_still::Still;
 use nl_tree::{Line, ReplyBuf};
 use std::alloc::Global;
 
 /// A core over a new volume of 32 blocks of 32 pages, whose files have no page.
 pub fn begin(alloc: Global) -> Result<Core<Still>, Memory>
-    ensures serves { IfOk result (Serves ⟦<Still as Counts>⟧ 0) }
+    ensures serves { IfOk result (CoreServes ⟦<Still as Counts>⟧ 0) }
     ensures new { IfOk result (IsNew ⟦<Still as Counts>⟧) }
 {
     match open_least(alloc) {
@@ -36,9 +36,9 @@ pub fn serve(
     out: &mut ReplyBuf,
     page: &mut PageBuf,
 ) -> Option<Answer>
-    requires serves { Serves ⟦<Still as Counts>⟧ files core.old }
+    requires serves { CoreServes ⟦<Still as Counts>⟧ files core.old }
     requires line { IsLine line.now }
-    ensures serves { IfSome result (λ a. Serves ⟦<Still as Counts>⟧ a.files core.new) }
+    ensures serves { IfSome result (λ a. CoreServes ⟦<Still as Counts>⟧ a.files core.new) }
     ensures answers { IfSome result (λ a. AnswersOn ⟦<Still as Counts>⟧ line.now.call core.old a.reply out.new) }
     ensures steps { IfSome result (λ a. TakesStep ⟦<Still as Counts>⟧ line.now.call core.old core.new a.reply) }
 {
@@ -56,11 +56,11 @@ fn serve_now(
     out: &mut ReplyBuf,
     page: &mut PageBuf,
 ) -> Answer
-    requires serves { Serves ⟦<Still as Counts>⟧ files core.old }
+    requires serves { CoreServes ⟦<Still as Counts>⟧ files core.old }
     requires line { IsLine line.now }
     requires writes { core.old.stopped ≡ 0 }
     requires stamp { ⟦<Still as Counts>⟧.next_stamp core.old.device ≤ 2 ^ 40 }
-    ensures serves { Serves ⟦<Still as Counts>⟧ result.files core.new }
+    ensures serves { CoreServes ⟦<Still as Counts>⟧ result.files core.new }
     ensures answers { AnswersOn ⟦<Still as Counts>⟧ line.now.call core.old result.reply out.new }
     ensures steps { TakesStep ⟦<Still as Counts>⟧ line.now.call core.old core.new result.reply }
 {

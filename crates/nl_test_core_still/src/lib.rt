@@ -1,10 +1,6 @@
-//! A core over the second device: a new volume is written into a memory whose pages never move, and a core begun over it programs, drops
-//! and commits.
+//! A core over the second device: a new volume is written into a memory whose pages never move, and a core is begun over it.
 #![tactic(auto)]
 
 mod opening;
-#[cfg(test)]
-mod rows;
-pub mod running;
 
 pub use opening::{open, open_least};

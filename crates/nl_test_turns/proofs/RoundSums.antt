@@ -9,14 +9,14 @@ use Rattle.nl_turns.specs.History.{Opening, line_at, effects}
 use Rattle.nl_turns.specs.Seat.{SeatState, by_seat, entries, NoNumberBeyond}
 use Rattle.nl_turns.proofs.Lines.{get_at, line_found}
 use Rattle.nl_test_turns.specs.Script.{IsScript}
-use Rattle.nl_test_turns.specs.Work.{entries_of, lines_of, HasLine, EachHasLine, SeatsHaveRun}
+use Rattle.nl_test_turns.specs.Work.{entries_of, lines_of, LineIsOfSeat, EachHasLine, SeatsHaveRun}
 use Rattle.nl_test_turns.proofs.Totals.{workers_effects, effects_of_line}
 
 -- a script's lines are lines of an opening that has them
 pub script_lines : (opening : Opening) (lines : List Line) (count : ℕ) → opening.lines ≡ lines → IsScript lines count → EachHasLine opening lines
 script_lines opening lines count has script i = go (slice_get lines i) refl
   where
-    go : (x : Option Line) → slice_get lines i ≡ x → IfSome x (HasLine opening)
+    go : (x : Option Line) → slice_get lines i ≡ x → IfSome x (LineIsOfSeat opening)
     go None e = tt
     go (Some l) e =
         let at = get_at lines i l l e in

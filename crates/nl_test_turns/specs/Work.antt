@@ -15,8 +15,8 @@ entries_of number history = entries (by_seat number history)
 abbrev pub lines_of : ℕ → List Passed → List ℕ
 lines_of number history = map (λ e. e.line) (entries_of number history)
 
-abbrev pub HasLine : Opening → Line → Type 0
-HasLine opening line = IsLineOf opening line.worker line.line line.call
+abbrev pub LineIsOfSeat : Opening → Line → Type 0
+LineIsOfSeat opening line = IsLineOf opening line.worker line.line line.call
 
 -- the seat took so many turns for the line
 pub record HasTakenTurns (seat : SeatState) (line times : ℕ) (after : SeatState) : Type 0 where
@@ -42,4 +42,4 @@ pub record SeatsHaveRun (seat : SeatState) (lines : List Line) (workers times : 
       × IfSome (slice_get lines (workers - 1 - i)) (λ line. lines_of (seat.next + i) after.seen ≡ replicate times line.line)
 
 abbrev pub EachHasLine : Opening → List Line → Type 0
-EachHasLine opening lines = (i : ℕ) → IfSome (slice_get lines i) (HasLine opening)
+EachHasLine opening lines = (i : ℕ) → IfSome (slice_get lines i) (LineIsOfSeat opening)

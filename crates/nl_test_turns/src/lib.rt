@@ -1,21 +1,21 @@
 //! A small value behind the turn lock, and threads that take turns.
 #![tactic(auto)]
 
+#[cfg(test)]
 mod closing;
+#[cfg(test)]
 mod counting;
 mod failing;
+#[cfg(test)]
 mod line;
+#[cfg(test)]
 mod rounds;
 mod script;
+#[cfg(test)]
 mod work;
 
-pub use closing::close_with;
-pub use counting::count_effects;
 pub use failing::FailingVolume;
-pub use line::run_line;
-pub use rounds::round;
 pub use script::sync_script;
-pub use work::take_turns;
 
 #[cfg(test)]
 mod tests;

@@ -8,7 +8,7 @@ ghost use Rattle.nl_turns.specs.History.{effects};
 ghost use Rattle.nl_turns.specs.Seat.{entries, SeatState};
 ghost use Rattle.nl_turns.specs.Served.{stage_entry, effect_entry, is_staged, outcome_due};
 ghost use Rattle.nl_turns.specs.declared.entry.Entry.{Entry as TurnEntry};
-ghost use Rattle.nl_test_turns.specs.Work.{entries_of, HasLine};
+ghost use Rattle.nl_test_turns.specs.Work.{entries_of, LineIsOfSeat};
 
 use nl_tree::{Answered, Line, ReplyBuf, Stage};
 use nl_turns::{Entry, Served, TurnSeat, Turns};
@@ -24,7 +24,7 @@ fn stage_turn<V: Served, R: Wait>(
 ) -> Stage
     requires lock { seat.old.lock ≡ turns.now.name }
     requires idle { seat.old.has_turn ≡ false }
-    requires line { HasLine seat.old.opening line.now }
+    requires line { LineIsOfSeat seat.old.opening line.now }
     ensures seat { seat.new ≡ record seat.old { seen = seat.new.seen } }
     ensures grows { IsPrefix seat.old.seen seat.new.seen }
     ensures own { entries_of seat.old.number seat.new.seen
@@ -47,7 +47,7 @@ pub(crate) fn effect_turn<V: Served, R: Wait>(
 ) -> Answered
     requires lock { seat.old.lock ≡ turns.now.name }
     requires idle { seat.old.has_turn ≡ false }
-    requires line { HasLine seat.old.opening line.now }
+    requires line { LineIsOfSeat seat.old.opening line.now }
     ensures seat { seat.new ≡ record seat.old { seen = seat.new.seen } }
     ensures grows { IsPrefix seat.old.seen seat.new.seen }
     ensures own { entries_of seat.old.number seat.new.seen
@@ -72,7 +72,7 @@ pub fn run_line<V: Served, R: Wait>(
 ) -> (TurnSeat, Answered)
     requires lock { seat.lock ≡ turns.now.name }
     requires idle { seat.has_turn ≡ false }
-    requires line { HasLine seat.opening line.now }
+    requires line { LineIsOfSeat seat.opening line.now }
     ensures seat { result.0 ≡ record seat { seen = result.0.seen } }
     ensures grows { IsPrefix seat.seen result.0.seen }
     ensures own { (k : ℕ) × (last : LastStage) × (is_staged last ≡ false) × (entries_of seat.number result.0.seen

@@ -1,7 +1,7 @@
 ghost use Rattle.std.specs.Prelude.{◌≡◌, ℕ, ◌+◌, ◌≤◌, length, false, vec_len, IfSome, slice_get};
 ghost use Rattle.std.specs.Thread.{IsSync};
 ghost use Rattle.nl_turns.specs.Seat.{SeatState};
-ghost use Rattle.nl_test_turns.specs.Work.{HasLine, HasTakenTurns, CanRunWorkers, SeatsHaveRun, EachHasLine};
+ghost use Rattle.nl_test_turns.specs.Work.{LineIsOfSeat, HasTakenTurns, CanRunWorkers, SeatsHaveRun, EachHasLine};
 
 use crate::work::take_turns;
 use nl_tree::{Lines, ReplyBuf};
@@ -34,7 +34,7 @@ pub fn round<V: Served + Send, R: Threads + Wait + Sync>(
     let (own, mut seat) = join(
         rt,
         move || -> TurnSeat
-            requires { (own.lock ≡ turns.now.name) × (own.has_turn ≡ false) × HasLine own.opening line.now }
+            requires { (own.lock ≡ turns.now.name) × (own.has_turn ≡ false) × LineIsOfSeat own.opening line.now }
             ensures { HasTakenTurns own line.entry.now.line times result }
         { take_turns(rt, turns, own, line, out, times) },
         move || -> TurnSeat

@@ -1,5 +1,9 @@
 // Tests of threads that take turns with a volume, and of the two turns of a line.
-use super::*;
+use crate::closing::close_with;
+use crate::counting::count_effects;
+use crate::failing::FailingVolume;
+use crate::line::run_line;
+use crate::script::sync_script;
 use nl_tree::{Answered, FaultReply, Reply, ReplyBuf};
 use nl_turns::Turns;
 use std::marker::Brand;

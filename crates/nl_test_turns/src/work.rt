@@ -1,5 +1,5 @@
 ghost use Rattle.std.specs.Prelude.{◌≡◌, false};
-ghost use Rattle.nl_test_turns.specs.Work.{HasLine, HasTakenTurns};
+ghost use Rattle.nl_test_turns.specs.Work.{LineIsOfSeat, HasTakenTurns};
 
 use crate::line::effect_turn;
 use nl_tree::{Line, ReplyBuf};
@@ -17,7 +17,7 @@ pub fn take_turns<V: Served, R: Wait>(
 ) -> TurnSeat
     requires lock { seat.lock ≡ turns.now.name }
     requires idle { seat.has_turn ≡ false }
-    requires line { HasLine seat.opening line.now }
+    requires line { LineIsOfSeat seat.opening line.now }
     ensures { HasTakenTurns seat line.now.line times result }
 {
     for _ in 0..times {

@@ -1,11 +1,9 @@
 //! Scripts that the workers run over a small value, under gates.
 #![tactic(auto)]
 
+#[cfg(test)]
 mod gates;
+#[cfg(test)]
 mod run;
-
-pub use gates::{Chores, Counting, Meeting, Overtaking};
-pub use run::run_script;
-
 #[cfg(test)]
 mod tests;

@@ -1,5 +1,6 @@
 // Tests of workers that run a script under gates.
-use super::*;
+use crate::gates::{Chores, Counting, Meeting, Overtaking};
+use crate::run::run_script;
 use nl_test_turns::sync_script;
 use nl_tree::{FaultReply, Reply};
 use nl_workers::NoGate;

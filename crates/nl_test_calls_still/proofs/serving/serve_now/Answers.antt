@@ -4,7 +4,7 @@ use Rattle.nl_core.specs.declared.state.Core.{Core}
 use Rattle.nl_flight.specs.Flight.{InFlight}
 use Rattle.nl_testkit_still.specs.contracts.counts.StillCounts.TheImpl.{ghosts}
 use Rattle.nl_testkit_still.specs.declared.still.Still.{Still}
-use Rattle.nl_test_calls_still.specs.Serving.{Serves, TakesStep}
+use Rattle.nl_test_calls_still.specs.Serving.{CoreServes, TakesStep}
 use Rattle.nl_test_calls_still.proofs.Served.{serves_on, steps_on}
 use Rattle.nl_test_calls_still.proofs.serving.serve_now.Goals as goal
 
@@ -31,7 +31,7 @@ answer_call-answer-requires c =
 pub returns-clause-serves : goal.returns-clause-serves
 returns-clause-serves c =
     let a = c.answer_call-answer in
-    subst (λ (x : Core Still). Serves ghosts a.result.files x) (sym c.count_call.ensures)
+    subst (λ (x : Core Still). CoreServes ghosts a.result.files x) (sym c.count_call.ensures)
     (serves_on ghosts c.args.files c.args.line.now.call c.args.core.now a.new.core a.result.reply a.new.out a.result.files c.requires.serves a.ensures.core a.ensures.answers)
 
 pub returns-clause-answers : goal.returns-clause-answers

@@ -1,11 +1,11 @@
 // A core that programs pages, drops them and commits, until the memory is full.
 ghost use Rattle.nl_core.specs.Core.{IsCore};
 
-use crate::opening::open_least;
 use crate::running::{commit, drop_line, program};
 use nl_core::Core;
 use nl_field::{Memory, PageBuf};
 use nl_iface::{Counts, MovingPages};
+use nl_test_core_still::open_least;
 use nl_testkit_still::Still;
 use std::alloc::Global;
 use std::test::Fail;
