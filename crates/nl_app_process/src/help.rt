@@ -13,6 +13,7 @@ Usage:
   nameless IMAGE run             reads a script from standard input, runs it, and prints an answer for each line
   nameless IMAGE tree            prints every path
   nameless IMAGE report          prints what the volume takes of what there is
+  nameless IMAGE map             prints what is found on each page
   nameless IMAGE check           prints what is at fault
   nameless IMAGE soak SEED N W   runs a drawn script of N lines for each of W workers, and prints a summary
   nameless --help                prints this text
@@ -38,7 +39,8 @@ Status:
      or the volume has no write sequence number left;
      medium in use: another program has the image file
   6  memory: there is not enough memory
-  7  blank: the file holds no volume; damaged PLACE WHAT: what it holds is none that can be opened
+  7  blank: the file holds no volume; damaged PLACE WHAT: what it holds is none that can be opened;
+     `map` goes on behind that line
   8  check found what it printed
 
 Example:

@@ -3,7 +3,7 @@ use Rattle.std.specs.Prelude.{ℕ, ⊤, ◌<◌, ◌≤◌, nat_le, nat_lt, ◌&
 use Rattle.nl_field.specs.Numbers.{is_legal}
 use Rattle.nl_script.specs.Spellings.{digits_of}
 use Rattle.nl_cmd_words.specs.declared.command.Command.{Command}
-use Rattle.nl_cmd_words.specs.declared.command.Command.TheVariants.{Format, Run, Check, Tree, Report, Soak}
+use Rattle.nl_cmd_words.specs.declared.command.Command.TheVariants.{Format, Run, Check, Tree, Report, Map, Soak}
 
 -- a geometry that a volume can have
 abbrev pub format_of : Option ℕ → Option ℕ → Option Command
@@ -26,6 +26,7 @@ plain_command word =
     else if bytes_eq word (codes "check") then Some Check
     else if bytes_eq word (codes "tree") then Some Tree
     else if bytes_eq word (codes "report") then Some Report
+    else if bytes_eq word (codes "map") then Some Map
     else None
 
 -- The command that the words name. None where they name none, or where their numbers are no spellings or illegal.

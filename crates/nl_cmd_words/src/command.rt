@@ -20,6 +20,8 @@ pub enum Command {
     Tree,
     /// Prints counts of the opened volume.
     Report,
+    /// Prints what is found on each page.
+    Map,
     /// Runs the script that is drawn from a seed, of so many lines for each of so many workers, and prints a summary.
     Soak(u64, u32, u8),
 }
@@ -69,6 +71,8 @@ fn plain_command(word: &[u8]) -> Option<Command>
         Some(Command::Tree)
     } else if word == b"report".as_slice() {
         Some(Command::Report)
+    } else if word == b"map".as_slice() {
+        Some(Command::Map)
     } else {
         None
     }

@@ -9,6 +9,7 @@ pub fn commands()
     ensures check { command_of (codes "check" ∷ []) ≡ Some command.Check }
     ensures tree { command_of (codes "tree" ∷ []) ≡ Some command.Tree }
     ensures report { command_of (codes "report" ∷ []) ≡ Some command.Report }
+    ensures map { command_of (codes "map" ∷ []) ≡ Some command.Map }
     ensures format { command_of (codes "format" ∷ codes "32" ∷ codes "032" ∷ []) ≡ Some (command.Format 32 32) }
     ensures soak { command_of (codes "soak" ∷ codes "0" ∷ codes "20000" ∷ codes "8" ∷ []) ≡ Some (command.Soak 0 20000 8) }
 {}
@@ -17,6 +18,7 @@ pub fn commands()
 pub fn no_commands()
     ensures none { command_of [] ≡ None }
     ensures other { command_of (codes "runs" ∷ []) ≡ None }
+    ensures map_of { command_of (codes "map" ∷ codes "svg" ∷ []) ≡ None }
     ensures more { command_of (codes "run" ∷ codes "run" ∷ []) ≡ None }
     ensures few { command_of (codes "format" ∷ codes "32" ∷ []) ≡ None }
     ensures geometry { command_of (codes "format" ∷ codes "3" ∷ codes "32" ∷ []) ≡ None }

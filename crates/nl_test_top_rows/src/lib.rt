@@ -1,6 +1,8 @@
-//! Tests of the top call on media in memory: scripts of one worker, soaks, and what a volume shows.
+//! Tests of the top call on media in memory: scripts of one worker, soaks, what a volume shows, and its map.
 #![tactic(auto)]
 
+#[cfg(test)]
+mod maps;
 #[cfg(test)]
 mod rows;
 #[cfg(test)]

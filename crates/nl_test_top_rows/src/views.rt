@@ -90,11 +90,14 @@ fn the_order_of_paths(rt: HostRuntime) -> Result<(), Fail> {
     Ok(())
 }
 
-// Words, which write of the sink fails, and the text: each path is written by itself, and a report at once.
-const SINK: [(&str, u64, &str); 3] = [
+// Words, which write of the sink fails, and the text: each path is written by itself, a report at once,
+// and a map in two writes.
+const SINK: [(&str, u64, &str); 5] = [
     ("tree", 1, ""),
     ("tree", 2, "opened 0\n"),
     ("report", 1, ""),
+    ("map", 1, ""),
+    ("map", 2, "opened 0\n"),
 ];
 
 // Whether each is told as wanted.

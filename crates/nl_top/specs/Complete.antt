@@ -5,7 +5,7 @@ use Rattle.nl_field.specs.CrashStates.{top}
 use Rattle.nl_field.specs.Scan.{next_stamp_of}
 use Rattle.nl_cmd_words.specs.Complete.{IsCarriedOut, StartsConsistent}
 use Rattle.nl_cmd_words.specs.declared.command.Command.{Command}
-use Rattle.nl_cmd_words.specs.declared.command.Command.TheVariants.{Check, Format, Report, Run, Soak, Tree}
+use Rattle.nl_cmd_words.specs.declared.command.Command.TheVariants.{Check, Format, Map, Report, Run, Soak, Tree}
 use Rattle.nl_spec_headline.specs.Streams.{Medium, Stream}
 use Rattle.nl_spec_headline.specs.declared.lists.Ordered.{Ordered}
 use Rattle.nl_script.specs.Script.{script}
@@ -25,7 +25,7 @@ NoFaultAnswered order = list_any (λ o. is_some o.fault) order ≡ false
 abbrev pub RunCompletes : ℕ → List Ordered → Type 0
 RunCompletes status order = ((status ≡ 0) × NoFaultAnswered order) ⊎ (status ≡ 6)
 
--- Each command is carried out: a volume is made; a medium that starts consistent is checked, and its paths and its report are printed; and while
+-- Each command is carried out: a volume is made; a medium that starts consistent is checked, and its paths, its report and its map are printed; and while
 -- counts last, the script that the source has left is run on it, and a soak, and no answer is a fault reply.
 abbrev pub CarriesOut : Option Command → Type 0 → Stream → Medium → Medium → List Ordered → ℕ → Type 0
 CarriesOut None tells source medium medium' order status = ⊤
@@ -36,5 +36,6 @@ CarriesOut (Some Run) tells source medium medium' order status =
 CarriesOut (Some Check) tells source medium medium' order status = (count : ℕ) → StartsConsistent tells medium count → IsCarriedOut status
 CarriesOut (Some Tree) tells source medium medium' order status = (count : ℕ) → StartsConsistent tells medium count → IsCarriedOut status
 CarriesOut (Some Report) tells source medium medium' order status = (count : ℕ) → StartsConsistent tells medium count → IsCarriedOut status
+CarriesOut (Some Map) tells source medium medium' order status = (count : ℕ) → StartsConsistent tells medium count → IsCarriedOut status
 CarriesOut (Some (Soak seed lines workers)) tells source medium medium' order status =
     (count : ℕ) → StartsConsistent tells medium count → CountsLast medium medium' → RunCompletes status order

@@ -3,13 +3,14 @@
 use Rattle.std.specs.Prelude.{◌≡◌, ℕ, List, codes, None, Some, Ok}
 use Rattle.nl_cmd_words.specs.Command.{command_of}
 use Rattle.nl_cmd_words.specs.Ends.{CheckEnds, EndsBefore, FormatEnds}
-use Rattle.nl_cmd_words.specs.declared.command.Command.TheVariants.{Check, Format, Report, Run as RunScript, Soak, Tree as TreeCommand}
+use Rattle.nl_cmd_words.specs.declared.command.Command.TheVariants.{Check, Format, Map, Report, Run as RunScript, Soak, Tree as TreeCommand}
 use Rattle.nl_gen.specs.Soak.{soak_text}
 use Rattle.nl_spec_headline.specs.Streams.{Medium, Stream}
 use Rattle.nl_spec_headline.specs.declared.lists.Ordered.{Ordered}
 use Rattle.nl_spec_headline.specs.declared.lists.Synced.{Synced}
 use Rattle.nl_script.specs.Script.{script}
 use Rattle.nl_tree.specs.declared.call.Line.{Line}
+use Rattle.nl_cmd_map.specs.Mapping.{MapEnds}
 use Rattle.nl_cmd_view.specs.Looking.{LookEnds, ReportsImage, TreeEnds}
 use Rattle.nl_top.specs.Leaving.{Leaving, new_volume, nothing_new}
 use Rattle.nl_top.specs.RunEnds.{RunEnds, ScriptEnds}
@@ -33,6 +34,9 @@ pub data CallEnds (tells : Type 0) (words : List (List ℕ)) (leaves : Leaving �
       → CallEnds tells words leaves source source' sink sink' medium medium' order syncs status
   reports : command_of words ≡ Some Report → source' ≡ source → leaves nothing_new
       → LookEnds tells ReportsImage sink sink' medium medium' order syncs status
+      → CallEnds tells words leaves source source' sink sink' medium medium' order syncs status
+  maps : command_of words ≡ Some Map → source' ≡ source → leaves nothing_new
+      → MapEnds tells sink sink' medium medium' order syncs status
       → CallEnds tells words leaves source source' sink sink' medium medium' order syncs status
   soaks : (seed count workers : ℕ) (lines : List Line) → command_of words ≡ Some (Soak seed count workers) → source' ≡ source
       → script (soak_text seed count workers) ≡ Ok lines

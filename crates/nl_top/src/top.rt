@@ -8,6 +8,8 @@ ghost use Rattle.nl_top.specs.Leaving.{leaves_within};
 
 use crate::running::run;
 use crate::soaking::soak;
+use nl_cmd_map::laws::map_completes;
+use nl_cmd_map::map;
 use nl_cmd_view::laws::look_completes;
 use nl_cmd_view::{report, tree};
 use nl_cmd_words::laws::{check_completes, format_completes, opening_completes};
@@ -23,8 +25,8 @@ use std::thread::Threads;
 ///
 /// `format B P` makes a volume of B blocks of P pages; whatever the medium held is gone. `run` reads the whole script of the source, opens
 /// the volume, runs the lines by their workers, closes with a commit, and prints the answers in the order of their places. `check` prints
-/// what is at fault. `tree` prints every path, and `report` what the volume takes of what there is. `soak SEED N W` runs a script that is
-/// drawn from a number, of N lines for each of W workers, and prints a summary.
+/// what is at fault. `tree` prints every path, `report` what the volume takes of what there is, and `map` what is found on each page.
+/// `soak SEED N W` runs a script that is drawn from a number, of N lines for each of W workers, and prints a summary.
 ///
 /// Of a run, and of a soak, one order of all its lines is told. Over a medium that tells its contents each answer is what a plain tree of
 /// files replies at its place in that order, or a fault reply that has its cause; a stop within any program or erase leaves a medium that
@@ -76,6 +78,10 @@ pub fn nameless<Rt: Threads + Wait + Sync, S: Source, K: Sink, M: Nand + Send, G
         Some(Command::Report) => {
             look_completes::<M>();
             report(alloc, sink, media)
+        }
+        Some(Command::Map) => {
+            map_completes::<M>();
+            map(alloc, sink, media)
         }
         Some(Command::Soak(seed, count, workers)) => {
             opening_completes::<M>();

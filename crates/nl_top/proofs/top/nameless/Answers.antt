@@ -1,9 +1,9 @@
 use Rattle.std.proofs.Common.{◌∙◌, ap, refl, subst, sym, Option, None, Some}
 use Rattle.nl_cmd_words.specs.declared.command.Command.{Command}
-use Rattle.nl_cmd_words.specs.declared.command.Command.TheVariants.{Check, Format, Report, Run, Soak, Tree}
+use Rattle.nl_cmd_words.specs.declared.command.Command.TheVariants.{Check, Format, Map, Report, Run, Soak, Tree}
 use Rattle.nl_spec_headline.specs.Streams.{medium_seen, sink_seen, source_seen}
 use Rattle.nl_top.specs.Complete.{CarriesOut}
-use Rattle.nl_top.specs.Ends.{checks, faulty_words, formats, reports, runs, shows_tree, soaks}
+use Rattle.nl_top.specs.Ends.{checks, faulty_words, formats, maps, reports, runs, shows_tree, soaks}
 use Rattle.nl_top.specs.Leaving.{leaves_within}
 use Rattle.nl_top.specs.Soak.{Summarises}
 use Rattle.nl_top.proofs.Left.{same_leaves}
@@ -100,6 +100,19 @@ returns-in-Some-Report-clause-completes g c = λ none.
     let done : CarriesOut (Some Report) m.tells source old new c.report.result.order.items c.report.result.status = λ count starts.
     c.look_completes-in-Some-Report.ensures.reports source source (sink_seen g.K.Sink c.args.sink.now) (sink_seen g.K.Sink c.report.new.sink) old new c.report.result.order.items c.report.result.syncs.items c.report.result.status count c.report.ensures.ended starts none in
     subst (λ (o : Option Command). CarriesOut o m.tells source old new c.report.result.order.items c.report.result.status) (sym (sym c.command_of.ensures.command ∙ c.in-Some-Report.is ∙ ap Some c.in-Some-Report.field-0-is)) done
+
+pub returns-in-Some-Map-clause-ended : goal.returns-in-Some-Map-clause-ended
+returns-in-Some-Map-clause-ended g c = maps (sym c.command_of.ensures.command ∙ c.in-Some-Map.is ∙ ap Some c.in-Some-Map.field-0-is) refl c.map.ensures.left c.map.ensures.ended
+
+pub returns-in-Some-Map-clause-completes : goal.returns-in-Some-Map-clause-completes
+returns-in-Some-Map-clause-completes g c = λ none.
+    let m = g.M.Nand in
+    let source = source_seen g.S.Source c.args.src.now in
+    let old = medium_seen m c.args.media in
+    let new = medium_seen m c.map.result.media in
+    let done : CarriesOut (Some Map) m.tells source old new c.map.result.order.items c.map.result.status = λ count starts.
+    c.map_completes.ensures source source (sink_seen g.K.Sink c.args.sink.now) (sink_seen g.K.Sink c.map.new.sink) old new c.map.result.order.items c.map.result.syncs.items c.map.result.status count c.map.ensures.ended starts none in
+    subst (λ (o : Option Command). CarriesOut o m.tells source old new c.map.result.order.items c.map.result.status) (sym (sym c.command_of.ensures.command ∙ c.in-Some-Map.is ∙ ap Some c.in-Some-Map.field-0-is)) done
 
 pub returns-in-Some-Soak-clause-ended : goal.returns-in-Some-Soak-clause-ended
 returns-in-Some-Soak-clause-ended g c =

@@ -1,0 +1,5 @@
+pub mod Headings
+pub mod Judged
+pub mod Lists
+pub mod Places
+pub mod Texts

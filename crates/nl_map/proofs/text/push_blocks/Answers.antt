@@ -1,0 +1,17 @@
+use Rattle.std.proofs.Common.{◌≡◌, ℕ, ◌+◌, ◌-◌, ◌*◌, ◌++◌, ◌∙◌, drop, take, ap, arith}
+use Rattle.std.specs.Prelude.{nat_lt}
+use Rattle.nl_map.specs.Text.{block_text, own_looks}
+use Rattle.nl_map.proofs.Texts.{text_more}
+use Rattle.nl_map.proofs.text.push_blocks.Goals as goal
+
+rest_is : (a b : ℕ) → a + b - a ≡ b
+rest_is a b = omega arith
+
+pub blocks-2-preserved : goal.blocks-2-preserved
+blocks-2-preserved c =
+    let shape = c.args.shape.now in
+    let looks = c.args.looks.now in
+    let block = c.blocks-2.block in
+    text_more (λ block. block_text block (nat_lt block shape.vblocks) (own_looks shape looks block)) block c.args.text.now.items c.blocks-2.text.items c.push_block.new.text.items c.blocks-2.invariant
+    (c.in_ok-push_block.ensures
+    ∙ ap (λ (n : ℕ). c.blocks-2.text.items ++ block_text block (nat_lt block shape.vblocks) (take n (drop (block * shape.pages) looks))) (rest_is (block * shape.pages) shape.pages))

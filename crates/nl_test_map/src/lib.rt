@@ -1,0 +1,4 @@
+//! Rows of the map of a medium, evaluated from its definitions.
+#![tactic(auto)]
+
+pub mod rows;
