@@ -52,7 +52,7 @@ def main():
     for name in chain:
         crate = crates[name]
         before, began = os.times(), time.time()
-        ran = subprocess.run([rtlib.RATTLE, "check", *crate.words([], keeps=False)], cwd=crate.folder, capture_output=True, text=True, check=False)
+        ran = subprocess.run([rtlib.RATTLE, "check", *crate.words(["--jobs", "1"], keeps=False)], cwd=crate.folder, capture_output=True, text=True, check=False)
         after = os.times()
         cost = after.children_user + after.children_system - before.children_user - before.children_system
         total += cost

@@ -2,7 +2,8 @@
 """Types each command of docs/TUTORIAL.md as it stands, and compares what is printed with the lines below it.
 
 Run it at the top of the repository, once `./nameless --version` has built the proved program. The commands of all fenced blocks go to one shell, in a
-folder of their own that has the repository's docs/ and nameless, so that nothing is left behind. The order of calls that eight workers make
+folder of their own that has the repository's docs/ and nameless, so that nothing is left behind. The machine should do nothing else: where it is busy,
+cleaner and handler may come in between, and other pages are moved. The order of calls that eight workers make
 differs from run to run: of them the lines are compared without places, in any order. It prints each command whose output is another one, and ends
 with 1 where there is one.
 """
