@@ -35,8 +35,8 @@ pub record OpensAs (image : Image) (course : Course) : Type 0 where
   pub shape : course.shape ≡ shape_of_image image
   pub next_stamp : course.next_stamp ≡ next_stamp_of image
 
--- Over any medium the volume opens with no greater count of calls than a super page can spell, and with a next write sequence number behind
--- one that a page can spell. Which, only a medium tells that tells its contents.
+-- Over any medium the volume opens with no greater count of calls than a super page can spell, and with a next write sequence number from 1
+-- to 2^63. Which, only a medium tells that tells its contents.
 pub record BeginsSpelled (course : Course) : Type 0 where
   pub count : course.count < 2 ^ 63
   pub next_stamp : (0 < course.next_stamp) × (course.next_stamp ≤ 2 ^ 63)

@@ -156,7 +156,7 @@ effect_of tree (Truncate path size) = done_with (with_content tree path (cut_to 
 effect_of tree (Stat path) = record { reply = status_of (length (entries_of tree path)) (node_at tree path); bytes = []; tree = tree }
 effect_of tree (ListCall path) =
     let entries = entries_of tree path in record { reply = Names (length entries); bytes = listing entries; tree = tree }
--- both numbers of a sync are open: see `Fits`
+-- both numbers of a sync are open: see `ReplyFits`
 effect_of tree Sync = record { reply = Synced 0 0; bytes = []; tree = tree }
 effect_of tree Clean = done_with tree
 
