@@ -1,5 +1,6 @@
 -- What a medium in a store is: the image that the store's bytes are, and the images that a kill may have left.
-use Rattle.std.specs.Prelude.{◌≡◌, ℕ, ◌≤◌, Bool, true, false, List, []}
+use Rattle.std.specs.Prelude.{◌≡◌, ℕ, ◌+◌, ◌≤◌, Bool, true, false, List, []}
+use Rattle.nl_field.specs.CrashStates.{saturated}
 use Rattle.nl_field.specs.Page.{Image}
 use Rattle.nl_nand.specs.declared.geometry.Geometry.{Geometry}
 use Rattle.nl_nand.specs.declared.answers.WriteAnswer.{WriteAnswer}
@@ -8,8 +9,8 @@ use Rattle.nl_store.specs.Store.{MomentEnded}
 use Rattle.nl_store.specs.declared.answers.StoreAnswer.{StoreAnswer}
 use Rattle.nl_store.specs.declared.answers.StoreAnswer.TheVariants as store
 use Rattle.nl_imgfile.specs.DiskImage.{AllErased, image_in, geometry_in_store}
-use Rattle.nl_imgfile.specs.declared.disk_nand.Attach.{Attach}
-use Rattle.nl_imgfile.specs.declared.disk_nand.Attach.TheVariants as attach
+use Rattle.nl_imgfile.specs.declared.disk_nand.StoreAttach.{StoreAttach}
+use Rattle.nl_imgfile.specs.declared.disk_nand.StoreAttach.TheVariants as attach
 use Rattle.nl_imgfile.specs.declared.disk_nand.DiskNand.{DiskNand}
 
 abbrev pub geometry_of : {S : Type 0} → DiskNand S → Geometry
@@ -53,6 +54,12 @@ pub record IsHeadedOrErased {S : Type 0} (left : S → ℕ → List ℕ → Type
   pub each : (m : ℕ) (b : List ℕ) → left d.store m b → (geometry_in_store b ≡ d.geometry → ⊥) → AllErased b
 
 -- the store that was not attached
-abbrev pub given_back : {S : Type 0} → Attach S → S
+abbrev pub given_back : {S : Type 0} → StoreAttach S → S
 given_back (attach.Fault store) = store
 given_back (attach.Memory store) = store
+
+-- The store was not attached: one read of it failed, and was counted, or memory was wanting, and nothing was done to it.
+abbrev pub IsNotAttached : {S O : Type 0} → (S → O) → (S → ℕ) → S → StoreAttach S → Type 0
+IsNotAttached origin read_faults store (attach.Fault back) =
+    (origin back ≡ origin store) × (read_faults back ≡ saturated (read_faults store + 1))
+IsNotAttached origin read_faults store (attach.Memory back) = back ≡ store

@@ -99,6 +99,7 @@ pub fn read_geometry<S: Store>(store: &mut S) -> Option<Geometry>
     ensures legal { IfSome result (λ g. IsTrue (is_geometry g)) }
     ensures told { IsTrue S.tells → IfSome result (λ g. g ≡ geometry_in_store (S.bytes store.old)) }
     ensures only_fetches { StoreOnlyRead S.bytes S.moment S.left store.old store.new }
+    ensures origin { S.origin store.new ≡ S.origin store.old }
 {
     let mut header = [0; HEADER];
     match store.fetch(&mut header, 0) {

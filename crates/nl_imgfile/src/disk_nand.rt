@@ -12,14 +12,14 @@ use std::alloc::Global;
 
 /// Why a store was not attached. It is given back.
 #[derive(Debug, Drop)]
-pub enum Attach<S> {
+pub enum StoreAttach<S> {
     /// Its header could not be read.
     Fault(S),
     /// Memory was wanting.
     Memory(S),
 }
 
-/// A flash medium in a store of bytes. Only `attach` takes memory. A program or an erase has written to the store before it answers.
+/// A flash medium in a store of bytes. Only attaching takes memory. A program or an erase has written to the store before it answers.
 /// A medium whose header stays (`headed`) is the same medium to whoever attaches to what a kill left of its store.
 #[derive(Drop)]
 pub struct DiskNand<S> {
@@ -34,23 +34,25 @@ impl<S: Store> DiskNand<S> {
     ghost use Rattle.nl_store.specs.Store.{StoreOnlyRead};
     ghost use Rattle.nl_nand.specs.Nand.{OperationCounted, ticked};
     ghost use Rattle.nl_imgfile.specs.DiskImage.{geometry_in_store};
-    ghost use Rattle.nl_imgfile.specs.DiskMedium.{geometry_of, clock_of, read_faults_of, write_faults_of, contents_of, left_of, given_back, CountedAs, IsHeaded};
+    ghost use Rattle.nl_imgfile.specs.DiskMedium.{geometry_of, clock_of, read_faults_of, write_faults_of, contents_of, left_of, given_back, CountedAs, IsHeaded, IsNotAttached};
 
     /// The medium that the store holds. A store that is shorter than a header, or has no header of legal numbers, is a medium
     /// that was never formed.
-    pub fn attach(alloc: Global, store: S) -> Result<DiskNand<S>, Attach<S>>
+    pub fn attach_store(alloc: Global, store: S) -> Result<DiskNand<S>, StoreAttach<S>>
         ensures geometry { IsTrue S.tells → IfOk result (λ d. geometry_of d ≡ geometry_in_store (S.bytes store)) }
         ensures only_fetches { IfOk result (λ d. StoreOnlyRead S.bytes S.moment S.left store d.store) }
+        ensures origin { IfOk result (λ d. S.origin d.store ≡ S.origin store) }
         ensures read_faults { IfOk result (λ d. read_faults_of S.read_faults d ≡ S.read_faults store) }
         ensures write_faults { IfOk result (λ d. write_faults_of S.write_faults d ≡ S.write_faults store) }
         ensures back { IfErr result (λ e. StoreOnlyRead S.bytes S.moment S.left store (given_back e)) }
+        ensures cause { IfErr result (IsNotAttached S.origin S.read_faults store) }
     {
         let Ok(buffer) = PageRecord::new(alloc) else {
-            return Err(Attach::Memory(store));
+            return Err(StoreAttach::Memory(store));
         };
         let mut store = store;
         let Some(geometry) = read_geometry(&mut store) else {
-            return Err(Attach::Fault(store));
+            return Err(StoreAttach::Fault(store));
         };
         Ok(DiskNand {
             store,
@@ -65,26 +67,28 @@ impl<S: Store> DiskNand<S> {
         alloc: Global,
         killed: &DiskNand<S>,
         store: S,
-    ) -> Result<DiskNand<S>, Attach<S>>
+    ) -> Result<DiskNand<S>, StoreAttach<S>>
         ensures { IsTrue S.tells → IsHeaded S.left killed.now → (m : ℕ) → S.left killed.now.store m (S.bytes store)
             → IfOk result (λ d. (geometry_of d ≡ geometry_of killed.now)
             × left_of S.tells S.moment S.left killed.now m (contents_of S.tells S.bytes d)) }
     {
-        DiskNand::attach(alloc, store)
+        DiskNand::attach_store(alloc, store)
     }
 
     /// The medium that the store holds, with a history that begins now: what was left of the store before is forgotten.
-    pub fn attach_anew(alloc: Global, store: S) -> Result<DiskNand<S>, Attach<S>>
+    pub fn attach_anew(alloc: Global, store: S) -> Result<DiskNand<S>, StoreAttach<S>>
         ensures geometry { IsTrue S.tells → IfOk result (λ d. geometry_of d ≡ geometry_in_store (S.bytes store)) }
         ensures bytes { IfOk result (λ d. S.bytes d.store ≡ S.bytes store) }
+        ensures origin { IfOk result (λ d. S.origin d.store ≡ S.origin store) }
         ensures clock { IfOk result (λ d. clock_of S.moment d ≡ S.moment store) }
         ensures read_faults { IfOk result (λ d. read_faults_of S.read_faults d ≡ S.read_faults store) }
         ensures write_faults { IfOk result (λ d. write_faults_of S.write_faults d ≡ S.write_faults store) }
         ensures begins { IsTrue S.tells → IfOk result (λ d. (m : ℕ) (b : List ℕ) → S.left d.store m b
             → (m ≡ S.moment store) × (b ≡ S.bytes store)) }
         ensures back { IfErr result (λ e. StoreOnlyRead S.bytes S.moment S.left store (given_back e)) }
+        ensures cause { IfErr result (IsNotAttached S.origin S.read_faults store) }
     {
-        let mut disk = DiskNand::attach(alloc, store)?;
+        let mut disk = DiskNand::attach_store(alloc, store)?;
         disk.store.begin();
         Ok(disk)
     }

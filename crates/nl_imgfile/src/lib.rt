@@ -12,7 +12,7 @@ mod opened_nand;
 mod page_record;
 pub mod rows;
 
-pub use disk_nand::{Attach, DiskNand};
-pub use file_nand::{FileAttach, FileNand, attach_file, file_store};
+pub use disk_nand::{DiskNand, StoreAttach};
+pub use file_nand::{Attach, FileNand, file_store};
 pub use forming_nand::FormingNand;
 pub use opened_nand::OpenedNand;

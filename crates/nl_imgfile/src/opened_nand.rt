@@ -2,7 +2,7 @@
 ghost use Rattle.std.specs.Prelude.{IsTrue};
 ghost use Rattle.nl_imgfile.specs.DiskMedium.{IsHeaded};
 
-use crate::disk_nand::{Attach, DiskNand};
+use crate::disk_nand::{DiskNand, StoreAttach};
 use nl_field::PageBuf;
 use nl_nand::{FormAnswer, Geometry, Nand, ReadAnswer, WriteAnswer};
 use nl_store::Store;
@@ -21,11 +21,11 @@ impl<S: Store> OpenedNand<S> {
     ghost use Rattle.nl_field.specs.Page.{Image};
     ghost use Rattle.nl_store.specs.Store.{StoreOnlyRead};
     ghost use Rattle.nl_imgfile.specs.DiskImage.{image_of_store};
-    ghost use Rattle.nl_imgfile.specs.DiskMedium.{clock_of, read_faults_of, write_faults_of, contents_of, left_of, given_back};
+    ghost use Rattle.nl_imgfile.specs.DiskMedium.{clock_of, read_faults_of, write_faults_of, contents_of, left_of, given_back, IsNotAttached};
 
     /// The medium that the store holds. What was left of the store before is forgotten. The store is given back where its header could not
     /// be read, and for want of memory.
-    pub fn attach(alloc: Global, store: S) -> Result<OpenedNand<S>, Attach<S>>
+    pub fn attach(alloc: Global, store: S) -> Result<OpenedNand<S>, StoreAttach<S>>
         ensures contents { IsTrue S.tells → IfOk result (λ o. contents_of S.tells S.bytes o.disk ≡ image_of_store (S.bytes store)) }
         ensures left { IsTrue S.tells → IfOk result (λ o. (m : ℕ) (c : Image) → left_of S.tells S.moment S.left o.disk m c
             → (m ≡ S.moment store) × (c ≡ image_of_store (S.bytes store))) }
@@ -33,6 +33,7 @@ impl<S: Store> OpenedNand<S> {
         ensures read_faults { IfOk result (λ o. read_faults_of S.read_faults o.disk ≡ S.read_faults store) }
         ensures write_faults { IfOk result (λ o. write_faults_of S.write_faults o.disk ≡ S.write_faults store) }
         ensures back { IfErr result (λ e. StoreOnlyRead S.bytes S.moment S.left store (given_back e)) }
+        ensures cause { IfErr result (IsNotAttached S.origin S.read_faults store) }
     {
         let disk = DiskNand::attach_anew(alloc, store)?;
         Ok(OpenedNand { disk })

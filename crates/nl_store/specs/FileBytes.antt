@@ -1,7 +1,11 @@
 -- A store that is a file. What the file holds is not told.
 use Rattle.std.specs.Prelude.{◌≡◌, ℕ, ◌≤◌, List, [], refl}
 use Rattle.std.proofs.Math.Nat.{le_refl}
+use Rattle.std.specs.declared.fs.File.{File}
 use Rattle.nl_store.specs.declared.file_store.FileStore.{FileStore}
+
+abbrev pub file_of : FileStore → File
+file_of f = f.file
 
 abbrev pub moment_of : FileStore → ℕ
 moment_of f = f.moment

@@ -17,10 +17,11 @@ pub struct FileStore {
 
 impl FileStore {
     ghost use Rattle.std.specs.Prelude.{◌≡◌};
-    ghost use Rattle.nl_store.specs.FileBytes.{moment_of, read_faults_of, write_faults_of};
+    ghost use Rattle.nl_store.specs.FileBytes.{file_of, moment_of, read_faults_of, write_faults_of};
 
     /// The store in this file. It does nothing to the file, and takes no memory.
     pub fn new(file: File) -> FileStore
+        ensures file { file_of result ≡ file }
         ensures moment { moment_of result ≡ 0 }
         ensures faults { (read_faults_of result ≡ 0) × (write_faults_of result ≡ 0) }
     {
@@ -34,7 +35,7 @@ impl FileStore {
 
     /// The file.
     pub fn into_file(self) -> File
-        ensures { result ≡ self.file }
+        ensures { result ≡ file_of self }
     {
         self.file
     }
@@ -42,11 +43,12 @@ impl FileStore {
 
 impl FileStore {
     ghost use Rattle.std.specs.Prelude.{◌≡◌};
-    ghost use Rattle.nl_store.specs.FileBytes.{moment_of, read_faults_of, write_faults_of};
+    ghost use Rattle.nl_store.specs.FileBytes.{file_of, moment_of, read_faults_of, write_faults_of};
     ghost use Rattle.nl_store.specs.Store.{CallFaultCounted};
 
     // Counts a call that failed, and answers it.
     fn answered(&mut self, done: io::Result<()>) -> StoreAnswer
+        ensures file { file_of self.new ≡ file_of self.old }
         ensures moment { moment_of self.new ≡ moment_of self.old }
         ensures counted { CallFaultCounted (write_faults_of self.old) (write_faults_of self.new) (result ≡ StoreAnswer.Failed) }
         ensures reads_stay { read_faults_of self.new ≡ read_faults_of self.old }
@@ -63,9 +65,14 @@ impl FileStore {
 
 impl Store for FileStore {
     ghost use Rattle.std.specs.Prelude.{false, ◌≡◌};
-    ghost use Rattle.nl_store.specs.FileBytes.{moment_of, bytes_of, left_of, read_faults_of, write_faults_of, now_left as now_may_be_left};
+    ghost use Rattle.std.specs.declared.fs.File.{File};
+    ghost use Rattle.nl_store.specs.FileBytes.{file_of, moment_of, bytes_of, left_of, read_faults_of, write_faults_of, now_left as now_may_be_left};
 
     ghost tells = { false };
+
+    ghost Origin = { File };
+
+    ghost origin = { file_of };
 
     ghost bytes = { bytes_of };
 

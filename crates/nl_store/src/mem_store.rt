@@ -167,11 +167,15 @@ impl MemStore {
 }
 
 impl Store for MemStore {
-    ghost use Rattle.std.specs.Prelude.{true, ◌≡◌, ◌⊎◌};
+    ghost use Rattle.std.specs.Prelude.{true, ◌≡◌, ◌⊎◌, ⊤};
     ghost use Rattle.nl_store.specs.Memory.{bytes_of, moment_of, left_of, read_faults_of, write_faults_of};
     ghost use Rattle.nl_store.specs.MemoryLaws as laws;
 
     ghost tells = { true };
+
+    ghost Origin = { ⊤ };
+
+    ghost origin = { λ s. tt };
 
     ghost bytes = { bytes_of };
 

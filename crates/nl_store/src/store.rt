@@ -15,6 +15,12 @@ pub trait Store {
     /// call adds to what a kill may have left, and that `bytes` is left now.
     ghost tells: { Bool };
 
+    /// What tells one store from another, as which file it is.
+    ghost Origin: { Type 0 };
+
+    /// Which store it is. No call changes it.
+    ghost origin: { Self → Origin };
+
     /// All its bytes, in order.
     ghost bytes: { Self → List ℕ };
 
@@ -48,6 +54,7 @@ pub trait Store {
         ensures len { length out.new ≡ length out.old }
         ensures told { IsTrue tells → FetchGives at (bytes self.old) result out.new }
         ensures only_fetches { StoreOnlyRead bytes moment left self.old self.new }
+        ensures origin { origin self.new ≡ origin self.old }
         ensures counted { CallFaultCounted (read_faults self.old) (read_faults self.new) (result ≡ FetchAnswer.Failed) }
         ensures writes_stay { write_faults self.new ≡ write_faults self.old };
 
@@ -58,6 +65,7 @@ pub trait Store {
         ensures crash { KillLeaves moment left (FrontPut at from.now (bytes self.old)) self.old self.new }
         ensures reached { IsTrue tells → result ≡ StoreAnswer.Done
             → (b : List ℕ) → FrontPut at from.now (bytes self.old) b → left self.new (moment self.old) b }
+        ensures origin { origin self.new ≡ origin self.old }
         ensures counted { CallFaultCounted (write_faults self.old) (write_faults self.new) (result ≡ StoreAnswer.Failed) }
         ensures reads_stay { read_faults self.new ≡ read_faults self.old };
 
@@ -65,6 +73,7 @@ pub trait Store {
     fn resize(&mut self, size: u64) -> StoreAnswer
         ensures told { IsTrue tells → ResizeLeaves size (bytes self.old) result (bytes self.new) }
         ensures crash { KillLeaves moment left (Resized size (bytes self.old)) self.old self.new }
+        ensures origin { origin self.new ≡ origin self.old }
         ensures counted { CallFaultCounted (write_faults self.old) (write_faults self.new) (result ≡ StoreAnswer.Failed) }
         ensures reads_stay { read_faults self.new ≡ read_faults self.old };
 
@@ -72,6 +81,7 @@ pub trait Store {
     fn miss(&mut self, at: u64, size: u64)
         requires { IsTrue tells → length (bytes self.old) < at + size }
         ensures only_counts { StoreOnlyRead bytes moment left self.old self.new }
+        ensures origin { origin self.new ≡ origin self.old }
         ensures counted { CallFaultCounted (read_faults self.old) (read_faults self.new) ⊤ }
         ensures writes_stay { write_faults self.new ≡ write_faults self.old };
 
@@ -79,6 +89,7 @@ pub trait Store {
     fn refuse(&mut self)
         requires { 0 < write_faults self.old }
         ensures only_counts { StoreOnlyRead bytes moment left self.old self.new }
+        ensures origin { origin self.new ≡ origin self.old }
         ensures counted { CallFaultCounted (write_faults self.old) (write_faults self.new) ⊤ }
         ensures reads_stay { read_faults self.new ≡ read_faults self.old };
 
@@ -87,11 +98,13 @@ pub trait Store {
         ensures moment { moment self.new ≡ saturated (moment self.old + 1) }
         ensures later { moment self.old ≤ moment self.new }
         ensures marked { MomentEnded bytes moment left self.old self.new }
+        ensures origin { origin self.new ≡ origin self.old }
         ensures faults { (read_faults self.new ≡ read_faults self.old) × (write_faults self.new ≡ write_faults self.old) };
 
     /// Forgets what was left before: a kill from now on leaves what there is.
     fn begin(&mut self)
         ensures bytes { bytes self.new ≡ bytes self.old }
+        ensures origin { origin self.new ≡ origin self.old }
         ensures moment { moment self.new ≡ moment self.old }
         ensures faults { (read_faults self.new ≡ read_faults self.old) × (write_faults self.new ≡ write_faults self.old) }
         ensures begins { IsTrue tells → (m : ℕ) (b : List ℕ) → left self.new m b

@@ -3,7 +3,7 @@ ghost use Rattle.std.specs.Prelude.{◌≡◌, ◌<◌};
 ghost use Rattle.nl_imgfile.specs.DiskMedium.{geometry_of};
 
 use nl_field::{PageBuf, shape_of};
-use nl_imgfile::{FileAttach, FileNand, attach_file};
+use nl_imgfile::{Attach, FileNand};
 use nl_nand::{FormAnswer, Geometry, Nand, ReadAnswer, WriteAnswer};
 use std::alloc::Global;
 use std::fs::{self, File, OpenOptions};
@@ -53,7 +53,7 @@ fn opened(rt: &HostRuntime, path: &str) -> Option<File> {
 }
 
 fn attached(alloc: Global, file: File) -> Option<FileNand> {
-    attach_file(alloc, file).ok()
+    FileNand::attach(alloc, file).ok()
 }
 
 /// The blocks and pages of a file.
@@ -445,8 +445,8 @@ fn is_given_back(rt: &HostRuntime, path: &str) -> bool {
     let Ok(file) = File::create(rt, path) else {
         return false;
     };
-    let answer = attach_file(rt.alloc(), file);
-    let is = matches!(answer, Err(FileAttach::Fault(_)));
+    let answer = FileNand::attach(rt.alloc(), file);
+    let is = matches!(answer, Err(Attach::Fault(_)));
     drop(answer);
     is
 }
@@ -460,8 +460,8 @@ fn a_file_that_cannot_be_read_is_given_back(rt: HostRuntime) {
 
 /// Whether the file is in use.
 fn is_used(alloc: Global, file: File) -> bool {
-    let answer = attach_file(alloc, file);
-    let is = matches!(answer, Err(FileAttach::InUse(_)));
+    let answer = FileNand::attach(alloc, file);
+    let is = matches!(answer, Err(Attach::InUse(_)));
     drop(answer);
     is
 }

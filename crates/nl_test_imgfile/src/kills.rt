@@ -17,7 +17,7 @@ type At = (u64, usize);
 /// The medium in a store with these bytes.
 fn attached(alloc: Global, bytes: Vec<u8>, kill: Option<Kill>) -> Result<Disk, Memory> {
     let store = MemStore::new(alloc, bytes, FailList::new(alloc), kill);
-    DiskNand::attach(alloc, store).map_err(|_| Memory)
+    DiskNand::attach_store(alloc, store).map_err(|_| Memory)
 }
 
 fn is_small(media: &Disk) -> bool
