@@ -1,1 +1,4 @@
-pub mod Sets
+pub mod Gathered
+pub mod Images
+pub mod Resident
+pub mod Told

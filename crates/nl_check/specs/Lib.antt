@@ -1,1 +1,4 @@
 pub mod Checking
+pub mod Gathering
+pub mod Reading
+pub mod Told

@@ -2,7 +2,8 @@
 ghost use Rattle.std.specs.Prelude.{◌<◌, ◌≤◌};
 
 use crate::tests::{
-    Bytes, ENTRY, ROOT, ROOT_ADDRESS, Row, SUPER, checked_of, data, image, is_found, metadata, only,
+    Bytes, ENTRY, ROOT, ROOT_ADDRESS, Row, SUPER, all_of, checked_of, data, image, is_found,
+    metadata, only,
 };
 use nl_check::Checked;
 use nl_field::{Findings, Memory, What};
@@ -233,6 +234,24 @@ fn files_found(alloc: Global) -> Result<usize, Memory> {
 #[test]
 fn files_of_many_pages(rt: HostRuntime) -> Result<(), Fail> {
     assert_eq!(rt; files_found(rt.alloc())?, FILES.len());
+    Ok(())
+}
+
+// Too many pages, which have all moved: the first of them name pages that others have.
+fn moved_right(alloc: Global) -> Result<bool, Memory> {
+    let spread = Spread {
+        count: 481,
+        apart: false,
+        moved: true,
+    };
+    let checked = found(alloc, &in_one_block(), spread)?;
+    let wanted = all_of(&[What::Names, What::Charges, What::Crowded]);
+    Ok(is_found(&checked, wanted, 0))
+}
+
+#[test]
+fn too_many_that_moved(rt: HostRuntime) -> Result<(), Fail> {
+    assert!(rt; moved_right(rt.alloc())?);
     Ok(())
 }
 
