@@ -1,3 +1,4 @@
+pub mod Bars
 pub mod Headings
 pub mod Judged
 pub mod Lists

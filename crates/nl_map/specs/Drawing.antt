@@ -9,11 +9,13 @@ use Rattle.nl_meta.specs.Walk.{answers_blank, answers_damaged, opening_answer, o
 use Rattle.nl_map_pages.specs.Judging.{IsLiveOf}
 use Rattle.nl_print.specs.Texts.{damaged_text, opened_line}
 use Rattle.nl_map_pages.specs.Marks.{looks_of}
-use Rattle.nl_map.specs.Text.{body_text, heading_of}
+use Rattle.nl_map.specs.Forms.{drawn_text}
+use Rattle.nl_map.specs.Text.{heading_of}
 use Rattle.nl_map.specs.declared.drawing.Drawn.{Drawn}
 use Rattle.nl_map.specs.declared.drawing.Drawn.TheVariants.{Map, Unformed, Fault, Memory}
 use Rattle.nl_map.specs.declared.judging.Judged.{Judged}
 use Rattle.nl_map.specs.declared.judging.Judged.TheVariants as judged
+use Rattle.nl_map.specs.declared.form.Form.{Form}
 use Rattle.nl_map.specs.declared.heading.Heading.{Heading}
 use Rattle.nl_map.specs.declared.heading.Heading.TheVariants.{Opened, Blank, Damaged}
 
@@ -23,9 +25,9 @@ heading_text (Opened count) = opened_line count
 heading_text Blank = codes "blank\n"
 heading_text (Damaged place) = damaged_text place
 
--- the heading and the other lines have P, where there is a map
+-- the heading and the whole text have P, where there is a map
 abbrev pub IfMap : Drawn → (Heading → List ℕ → Type 0) → Type 0
-IfMap (Map heading body) P = P heading body.items
+IfMap (Map heading text) P = P heading text.items
 IfMap Unformed P = ⊤
 IfMap Fault P = ⊤
 IfMap Memory P = ⊤
@@ -36,10 +38,10 @@ IsHeading image (Opened count) = (opening_answer image ≡ opens) × (heading_te
 IsHeading image Blank = opening_answer image ≡ answers_blank
 IsHeading image (Damaged place) = opening_answer image ≡ answers_damaged place
 
--- These are the heading and the lines of the map of the image.
-pub record DrawsImage (image : Image) (heading : Heading) (body : List ℕ) : Type 0 where
+-- These are the heading and the text of the map of the image, in this form.
+pub record DrawsImage (form : Form) (image : Image) (heading : Heading) (text : List ℕ) : Type 0 where
   pub heading_is : IsHeading image heading
-  pub body_is : body ≡ body_text (shape_of_image image) (looks_of image)
+  pub text_is : text ≡ drawn_text form (heading_text heading) (shape_of_image image) (looks_of image)
 
 -- the volume opens
 abbrev pub is_opening : Heading → Bool

@@ -1,2 +1,5 @@
 pub mod Drawing
+pub mod Forms
+pub mod Runs
+pub mod Svg
 pub mod Text

@@ -1,5 +1,5 @@
 -- The text of a map: as what the medium opens, two lines for each block, and how many pages there are of each kind.
-use Rattle.std.specs.Prelude.{ℕ, ◌*◌, nat_lt, Bool, true, false, max, if◌then◌else◌, List, [], ◌∷◌, ◌++◌, codes, count_by, drop, flat_map, fold, map, take, Option, Some, None}
+use Rattle.std.specs.Prelude.{ℕ, ◌*◌, ◌==◌, nat_lt, Bool, true, false, max, if◌then◌else◌, List, [], ◌∷◌, ◌++◌, codes, count_by, drop, flat_map, fold, map, take, Option, Some, None}
 use Rattle.std.specs.List.{list_all, list_any, range_with_len}
 use Rattle.nl_field.specs.Medium.{shape_of_image}
 use Rattle.nl_field.specs.Page.{Image}
@@ -59,11 +59,14 @@ block_wear looks = fold (λ best l. max best l.wear) 0 looks
 abbrev pub pages_text : List Look → List ℕ
 pages_text looks = map (λ l. mark_code l.mark) looks
 
--- its number, its segment, its state and its wear, and a character a page
+-- its number, its segment, its state and its wear
+abbrev pub block_words : ℕ → Bool → List Look → List ℕ
+block_words block is_virtual looks =
+    field (codes "block") block ++ segment_text is_virtual ++ state_text looks ++ field (codes " wear") (block_wear looks)
+
+-- these words, and a character a page
 abbrev pub block_text : ℕ → Bool → List Look → List ℕ
-block_text block is_virtual looks =
-    field (codes "block") block ++ segment_text is_virtual ++ state_text looks ++ field (codes " wear") (block_wear looks) ++ 10 ∷ pages_text looks
-    ++ 10 ∷ []
+block_text block is_virtual looks = block_words block is_virtual looks ++ 10 ∷ pages_text looks ++ 10 ∷ []
 
 -- the pages of a block
 abbrev pub own_looks : Shape → List Look → ℕ → List Look
@@ -75,15 +78,9 @@ blocks_text shape looks =
 
 -- ---- all pages
 
--- the pages are found alike
+-- pages that are found so have the same character
 abbrev pub is_alike : Mark → Mark → Bool
-is_alike Erased Erased = true
-is_alike Dead Dead = true
-is_alike Live Live = true
-is_alike OldCopy OldCopy = true
-is_alike Uncorrectable Uncorrectable = true
-is_alike Unjudged Unjudged = true
-is_alike _ _ = false
+is_alike mark other = mark_code mark == mark_code other
 
 abbrev pub kind_text : List ℕ → Mark → List Look → List ℕ
 kind_text words mark looks = number_text words (count_by (λ l. is_alike mark l.mark) looks)

@@ -1,12 +1,10 @@
 //! The first line of a map.
-ghost use Rattle.std.specs.Prelude.{◌≡◌, ◌≤◌};
-ghost use Rattle.nl_field.specs.CrashStates.{Rose};
-ghost use Rattle.nl_io.specs.Streams.{WritesStream};
+ghost use Rattle.std.specs.Prelude.{◌≡◌, ◌++◌, OnOk};
 ghost use Rattle.nl_map.specs.Drawing.{heading_text, is_opening};
+ghost use Rattle.nl_print.specs.Texts.{what_text};
 
-use nl_field::Place;
-use nl_io::{Sink, SinkAnswer};
-use nl_print::{damaged_line, number_line, word_line};
+use crate::pieces::{push, push_field};
+use nl_field::{Memory, Place, What};
 
 /// As what a medium opens.
 #[derive(Clone, Copy, Debug, PartialEq, Eq)]
@@ -19,18 +17,38 @@ pub enum Heading {
     Damaged(Place),
 }
 
+// The word for what is at fault.
+fn word_of(what: What) -> &'static [u8]
+    ensures { result.now ≡ what_text what }
+{
+    match what {
+        What::Super => b"super",
+        What::Stamp => b"stamp",
+        What::Inode => b"inode",
+        What::Pages => b"pages",
+        What::Entry => b"entry",
+        What::Pointer => b"pointer",
+        What::Names => b"names",
+        What::Charges => b"charges",
+        What::Crowded => b"crowded",
+    }
+}
+
 impl Heading {
-    /// Prints the first line of a map.
-    pub fn print<K: Sink>(&self, sink: &mut K) -> SinkAnswer
-        ensures text { WritesStream (K.taken sink.old) (K.taken sink.new) result (heading_text self.now) }
-        ensures never_falls { K.faults sink.old ≤ K.faults sink.new }
-        ensures cause { result ≡ SinkAnswer.Failed → Rose (K.faults sink.old) (K.faults sink.new) }
+    // Adds the first line of a map.
+    pub(crate) fn push_to(&self, text: &mut Vec<u8>) -> Result<(), Memory>
+        ensures { OnOk result (text.new.items ≡ text.old.items ++ heading_text self.now) }
     {
         match self {
-            Heading::Opened(count) => number_line(sink, b"opened", *count),
-            Heading::Blank => word_line(sink, b"blank"),
-            Heading::Damaged(place) => damaged_line(sink, place),
+            Heading::Opened(count) => push_field(text, b"opened", *count)?,
+            Heading::Blank => push(text, b"blank")?,
+            Heading::Damaged(place) => {
+                push_field(text, b"damaged", place.place)?;
+                push(text, b" ")?;
+                push(text, word_of(place.what))?;
+            }
         }
+        push(text, b"\n")
     }
 
     /// Whether the volume opens.

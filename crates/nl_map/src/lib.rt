@@ -2,10 +2,15 @@
 #![tactic(auto)]
 
 mod drawing;
+mod form;
 mod heading;
 mod judging;
+pub mod laws;
 mod live;
+mod pieces;
+mod svg;
 mod text;
 
 pub use drawing::{Drawn, draw};
+pub use form::Form;
 pub use heading::Heading;

@@ -2,31 +2,11 @@
 ghost use Rattle.std.specs.Prelude.{◌≡◌, ◌≤◌, ◌<◌, ◌*◌, ◌^◌, ◌∷◌, ◌++◌, [], codes, decimal, length, map, nat_lt, Bool, OnOk, IfOk};
 ghost use Rattle.std.specs.List.{list_all, list_any};
 ghost use Rattle.nl_field.specs.Numbers.{ShapeBounds};
-ghost use Rattle.nl_print.specs.Texts.{field};
-ghost use Rattle.nl_map.specs.Text.{blocks_text, block_text, block_wear, body_text, first_text, is_alike, is_erased, is_live, is_unjudged, kind_text, last_text, mark_code, own_looks, pages_text, segment_text, state_text};
+ghost use Rattle.nl_map.specs.Text.{blocks_text, block_text, block_wear, block_words, body_text, first_text, is_alike, is_erased, is_live, is_unjudged, kind_text, last_text, mark_code, own_looks, pages_text, segment_text, state_text};
 
-use itoa::Buffer;
+use crate::pieces::{push, push_field};
 use nl_field::{Memory, Shape};
 use nl_map_pages::{Look, Mark};
-use std::alloc::Global;
-
-// Adds bytes at the end.
-fn push(text: &mut Vec<u8>, bytes: &[u8]) -> Result<(), Memory>
-    ensures { OnOk result (text.new.items ≡ text.old.items ++ bytes.now) }
-{
-    text.extend_from_slice(bytes)?;
-    Ok(())
-}
-
-// Adds a word, a space and a number.
-fn push_field(text: &mut Vec<u8>, word: &[u8], number: u64) -> Result<(), Memory>
-    ensures { OnOk result (text.new.items ≡ text.old.items ++ field word.now number) }
-{
-    let mut buffer = Buffer::new();
-    push(text, word)?;
-    push(text, b" ")?;
-    push(text, buffer.format(number).as_bytes())
-}
 
 // The character of a page.
 fn code_of(mark: Mark) -> u8
@@ -96,10 +76,25 @@ fn segment_word(is_virtual: bool) -> &'static [u8]
 }
 
 // The greatest wear of the pages.
-fn wear_of(looks: &[Look]) -> u32
+pub(crate) fn wear_of(looks: &[Look]) -> u32
     ensures { result ≡ block_wear looks.now }
 {
     looks.iter().fold(0, |best, look| best.max(look.wear))
+}
+
+// Adds the number of a block, its segment, its state and its wear.
+pub(crate) fn push_words(
+    text: &mut Vec<u8>,
+    block: u32,
+    is_virtual: bool,
+    looks: &[Look],
+) -> Result<(), Memory>
+    ensures { OnOk result (text.new.items ≡ text.old.items ++ block_words block is_virtual looks.now) }
+{
+    push_field(text, b"block", u64::from(block))?;
+    push(text, segment_word(is_virtual))?;
+    push(text, state_word(looks))?;
+    push_field(text, b" wear", u64::from(wear_of(looks)))
 }
 
 // Adds the two lines of a block.
@@ -111,10 +106,7 @@ fn push_block(
 ) -> Result<(), Memory>
     ensures { OnOk result (text.new.items ≡ text.old.items ++ block_text block is_virtual looks.now) }
 {
-    push_field(text, b"block", u64::from(block))?;
-    push(text, segment_word(is_virtual))?;
-    push(text, state_word(looks))?;
-    push_field(text, b" wear", u64::from(wear_of(looks)))?;
+    push_words(text, block, is_virtual, looks)?;
     push(text, b"\n")?;
     push_pages(text, looks)?;
     push(text, b"\n")
@@ -135,22 +127,20 @@ fn push_blocks(text: &mut Vec<u8>, shape: &Shape, looks: &[Look]) -> Result<(), 
     Ok(())
 }
 
-// Whether two pages are found alike.
-fn is_alike(mark: Mark, other: Mark) -> bool
+// Whether pages that are found so have the same character.
+pub(crate) fn is_alike(mark: Mark, other: Mark) -> bool
     ensures { result ≡ is_alike mark other }
 {
-    match mark {
-        Mark::Erased => matches!(other, Mark::Erased),
-        Mark::Dead => matches!(other, Mark::Dead),
-        Mark::Live => matches!(other, Mark::Live),
-        Mark::OldCopy => matches!(other, Mark::OldCopy),
-        Mark::Uncorrectable => matches!(other, Mark::Uncorrectable),
-        Mark::Unjudged => matches!(other, Mark::Unjudged),
-    }
+    code_of(mark) == code_of(other)
 }
 
 // Adds a line of words, and how many pages are found so.
-fn push_kind(text: &mut Vec<u8>, words: &[u8], mark: Mark, looks: &[Look]) -> Result<(), Memory>
+pub(crate) fn push_kind(
+    text: &mut Vec<u8>,
+    words: &[u8],
+    mark: Mark,
+    looks: &[Look],
+) -> Result<(), Memory>
     ensures { OnOk result (text.new.items ≡ text.old.items ++ kind_text words.now mark looks.now) }
 {
     let count = looks
@@ -179,15 +169,13 @@ fn push_last(text: &mut Vec<u8>, looks: &[Look]) -> Result<(), Memory>
     push_kind(text, b"? not judged", Mark::Unjudged, looks)
 }
 
-/// The lines of all blocks, and what each character says with how many pages have it.
+// Adds the lines of all blocks, and what each character says with how many pages have it.
 #[tactic(auto, unfolding(crate::specs::Text::totals_text))]
-pub fn body(alloc: Global, shape: &Shape, looks: &[Look]) -> Result<Vec<u8>, Memory>
+pub(crate) fn push_body(text: &mut Vec<u8>, shape: &Shape, looks: &[Look]) -> Result<(), Memory>
     requires { length looks.now ≡ shape.now.blocks * shape.now.pages }
-    ensures { IfOk result (λ text. text.items ≡ body_text shape.now looks.now) }
+    ensures { OnOk result (text.new.items ≡ text.old.items ++ body_text shape.now looks.now) }
 {
-    let mut text = Vec::new(alloc);
-    push_blocks(&mut text, shape, looks)?;
-    push_first(&mut text, looks)?;
-    push_last(&mut text, looks)?;
-    Ok(text)
+    push_blocks(text, shape, looks)?;
+    push_first(text, looks)?;
+    push_last(text, looks)
 }

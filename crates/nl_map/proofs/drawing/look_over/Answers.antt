@@ -7,7 +7,7 @@ size_of : (blocks pages : ℕ) → (shape_for blocks pages).blocks * (shape_for 
 unfolding shape_for
 size_of blocks pages = refl
 
-pub body-requires : goal.body-requires
-body-requires g c =
+pub drawn-requires : goal.drawn-requires
+drawn-requires g c =
     let size = c.geometry-geometry.result in
     ap length c.deref.ensures.value ∙ c.in-Ok.ensures.len ∙ sym (ap (λ (s : Shape). s.blocks * s.pages) c.in-Some.ensures.numbers ∙ size_of size.blocks size.pages)
