@@ -4,8 +4,8 @@
 ghost use Rattle.std.specs.Prelude.{◌≡◌, ◌⊎◌};
 ghost use Rattle.nl_app_process.specs.declared.notice.Notice.TheVariants.{Words, MediumFault, MediumInUse, Memory};
 
-use nl_app_file::answer;
-use nl_app_process::{HELP, Notice, Request, VERSION, request_of};
+use nl_app_file::{Ending, answer};
+use nl_app_process::{HELP, Notice, Request, VERSION, refusal_name, request_of};
 use nl_io::{StdSink, StdSource};
 use std::process::ExitCode;
 
@@ -33,6 +33,17 @@ fn noticed(rt: &HostRuntime, notice: Notice) -> u8
     notice.status()
 }
 
+// Tells the refusal of the tree with which a command on a path ended, and gives the status.
+fn told(rt: &HostRuntime, ending: Ending) -> u8
+    ensures { result ≡ ending.status }
+{
+    if let Some(refusal) = ending.refused {
+        let name = refusal_name(refusal);
+        let _ = eprintln!(rt; "{name}");
+    }
+    ending.status
+}
+
 fn main(rt: HostRuntime) -> ExitCode {
     let status = match request_of(&rt) {
         Ok(Request::Help) => print(&rt, HELP),
@@ -42,7 +53,7 @@ fn main(rt: HostRuntime) -> ExitCode {
             let mut source = StdSource::new(rt.stdin());
             let mut sink = StdSink::new(rt.stdout());
             match answer(&rt, path.as_str(), &words, &mut source, &mut sink) {
-                Ok(status) => status,
+                Ok(ending) => told(&rt, ending),
                 Err(notice) => noticed(&rt, notice),
             }
         }

@@ -12,17 +12,19 @@ use Rattle.nl_spec_headline.specs.Streams.{Medium, Prints, Stream, medium}
 use Rattle.nl_spec_headline.specs.declared.lists.Ordered.{Ordered}
 use Rattle.nl_spec_headline.specs.declared.lists.Synced.{Synced}
 use Rattle.nl_store.specs.declared.store.Store.{Ghosts}
+use Rattle.nl_cmd_words.specs.Paths.{path_word}
 use Rattle.nl_tree.specs.declared.call.Line.{Line}
+use Rattle.nl_tree.specs.declared.reply.Refusal.{Refusal}
 use Rattle.nl_imgfile.specs.DiskImage.{image_of_store}
 use Rattle.nl_top.specs.Complete.{CarriesOut}
 use Rattle.nl_top.specs.Leaving.{Leaving, new_volume, nothing_new, prefixes_of}
-use Rattle.nl_top.specs.Ends.{CallEnds, checks, faulty_words, formats, maps, reports, runs, shows_tree, soaks}
+use Rattle.nl_top.specs.Ends.{CallEnds, MayRefuse, checks, faulty_words, formats, gets, maps, maps_as_picture, reports, runs, shows_tree, soaks}
 use Rattle.nl_top.specs.Soak.{Summarises}
 use Rattle.nl_top.specs.RunEnds.{RunEnds, ScriptEnds, PrintsAnswers, not_run, ran, runs_script, script_refused, source_fault, source_no_memory}
 use Rattle.nl_app_file.specs.Ended.{EndsOnFile, forms}
 use Rattle.nl_app_file.specs.OnStore.{EndsOnStore, SeenInStore, leaves_in_store}
 
-module _ {tells : Type 0} {leaves leaves' : Leaving → Type 0} (by : (l : Leaving) → leaves l → leaves' l) (source source' sink sink' : Stream) (medium medium' : Medium) (order : List Ordered) (syncs : List Synced) (status : ℕ) where
+module _ {tells : Type 0} {leaves leaves' : Leaving → Type 0} (by : (l : Leaving) → leaves l → leaves' l) (source source' sink sink' : Stream) (medium medium' : Medium) (order : List Ordered) (syncs : List Synced) (refused : Option Refusal) (status : ℕ) where
   lines_by : (lines : List Line) (worn : Bool) (course : Course) → RunsLines tells lines (λ run. leaves (prefixes_of run)) medium medium' order syncs worn course → RunsLines tells lines (λ run. leaves' (prefixes_of run)) medium medium' order syncs worn course
   lines_by lines worn course r =
       record {
@@ -57,7 +59,7 @@ module _ {tells : Type 0} {leaves leaves' : Leaving → Type 0} (by : (l : Leavi
   script_by (script_refused line column why two refuses kept before) = script_refused line column why two refuses (by nothing_new kept) before
   script_by (runs_script lines reads ends) = runs_script lines reads (ran_by lines PrintsAnswers ends)
 
-  pub ends_by : (words : List (List ℕ)) → CallEnds tells words leaves source source' sink sink' medium medium' order syncs status → CallEnds tells words leaves' source source' sink sink' medium medium' order syncs status
+  pub ends_by : (words : List (List ℕ)) → CallEnds tells words leaves source source' sink sink' medium medium' order syncs refused status → CallEnds tells words leaves' source source' sink sink' medium medium' order syncs refused status
   ends_by words (faulty_words none two same kept before) = faulty_words none two same (by nothing_new kept) before
   ends_by words (runs is ends) = runs is (script_by ends)
   ends_by words (formats blocks pages is same kept ends) = formats blocks pages is same (by new_volume kept) ends
@@ -65,14 +67,16 @@ module _ {tells : Type 0} {leaves leaves' : Leaving → Type 0} (by : (l : Leavi
   ends_by words (shows_tree is same kept ends) = shows_tree is same (by nothing_new kept) ends
   ends_by words (reports is same kept ends) = reports is same (by nothing_new kept) ends
   ends_by words (maps is same kept ends) = maps is same (by nothing_new kept) ends
+  ends_by words (maps_as_picture is same kept ends) = maps_as_picture is same (by nothing_new kept) ends
+  ends_by words (gets path is at same kept ends) = gets path is at same (by nothing_new kept) ends
   ends_by words (soaks seed count workers lines is same drawn ends) = soaks seed count workers lines is same drawn (ran_by lines (Summarises tells) ends)
 
 -- of the command alone that forms the medium
 not_forming : {o : Option Command} {command : Command} → forms o ≡ true → o ≡ Some command → forms (Some command) ≡ false → ⊥
 not_forming is at not = let bad : true ≡ false = sym is ∙ ap forms at ∙ not in cc
 
-module _ {tells : Type 0} {leaves leaves' : Leaving → Type 0} (by : leaves new_volume → leaves' new_volume) {words : List (List ℕ)} (is_format : forms (command_of words) ≡ true) {source source' sink sink' : Stream} {medium medium' : Medium} {order : List Ordered} {syncs : List Synced} {status : ℕ} where
-  pub forming_by : CallEnds tells words leaves source source' sink sink' medium medium' order syncs status → CallEnds tells words leaves' source source' sink sink' medium medium' order syncs status
+module _ {tells : Type 0} {leaves leaves' : Leaving → Type 0} (by : leaves new_volume → leaves' new_volume) {words : List (List ℕ)} (is_format : forms (command_of words) ≡ true) {source source' sink sink' : Stream} {medium medium' : Medium} {order : List Ordered} {syncs : List Synced} {refused : Option Refusal} {status : ℕ} where
+  pub forming_by : CallEnds tells words leaves source source' sink sink' medium medium' order syncs refused status → CallEnds tells words leaves' source source' sink sink' medium medium' order syncs refused status
   forming_by (faulty_words none two same kept before) = absurd (let bad : true ≡ false = sym is_format ∙ ap forms none in cc)
   forming_by (runs is ends) = absurd (not_forming is_format is refl)
   forming_by (formats blocks pages is same kept ends) = formats blocks pages is same (by kept) ends
@@ -80,6 +84,8 @@ module _ {tells : Type 0} {leaves leaves' : Leaving → Type 0} (by : leaves new
   forming_by (shows_tree is same kept ends) = absurd (not_forming is_format is refl)
   forming_by (reports is same kept ends) = absurd (not_forming is_format is refl)
   forming_by (maps is same kept ends) = absurd (not_forming is_format is refl)
+  forming_by (maps_as_picture is same kept ends) = absurd (not_forming is_format is refl)
+  forming_by (gets path is at same kept ends) = absurd (not_forming is_format is refl)
   forming_by (soaks seed count workers lines is same drawn ends) = absurd (not_forming is_format is refl)
 
 -- ---- faulty words
@@ -93,8 +99,8 @@ pub record ToldFaulty (source source' sink sink' : Stream) (status : ℕ) : Type
   pub same : source' ≡ source
   pub prints : Prints sink sink' (codes "words\n")
 
-module _ {tells : Type 0} {words : List (List ℕ)} {leaves : Leaving → Type 0} {source source' sink sink' : Stream} {medium medium' : Medium} {order : List Ordered} {syncs : List Synced} {status : ℕ} (none : command_of words ≡ None) where
-  pub told_faulty : CallEnds tells words leaves source source' sink sink' medium medium' order syncs status → ToldFaulty source source' sink sink' status
+module _ {tells : Type 0} {words : List (List ℕ)} {leaves : Leaving → Type 0} {source source' sink sink' : Stream} {medium medium' : Medium} {order : List Ordered} {syncs : List Synced} {refused : Option Refusal} {status : ℕ} (none : command_of words ≡ None) where
+  pub told_faulty : CallEnds tells words leaves source source' sink sink' medium medium' order syncs refused status → ToldFaulty source source' sink sink' status
   told_faulty (faulty_words is two same kept before) = record { two = two; same = same; prints = before.prints }
   told_faulty (runs is ends) = absurd (not_both none is)
   told_faulty (formats blocks pages is same kept ends) = absurd (not_both none is)
@@ -102,6 +108,8 @@ module _ {tells : Type 0} {words : List (List ℕ)} {leaves : Leaving → Type 0
   told_faulty (shows_tree is same kept ends) = absurd (not_both none is)
   told_faulty (reports is same kept ends) = absurd (not_both none is)
   told_faulty (maps is same kept ends) = absurd (not_both none is)
+  told_faulty (maps_as_picture is same kept ends) = absurd (not_both none is)
+  told_faulty (gets path is at same kept ends) = absurd (not_both none is)
   told_faulty (soaks seed count workers lines is same drawn ends) = absurd (not_both none is)
 
 -- nothing was done before a line, and the medium is one that stays
@@ -110,7 +118,7 @@ stays m prints = record { prints = prints; untouched = record { same_contents = 
 
 -- on a store that is left alone
 pub faulty_on_store : {B : Type 0} (g : Ghosts B) (words : List (List ℕ)) (store : B) {source source' sink sink' : Stream} {status : ℕ} → command_of words ≡ None → ToldFaulty source source' sink sink' status
-    → EndsOnStore g words store store source source' sink sink' status
+    → EndsOnStore g words store store source source' sink sink' None status
 faulty_on_store g words store {source} {source'} {sink} {sink'} {status} none told =
     let m : Medium = medium (record { blocks = 0; pages = 0 }) (image_of_store (g.bytes store)) (g.moment store) (g.read_faults store) (g.write_faults store) in
     record {
@@ -122,23 +130,25 @@ faulty_on_store g words store {source} {source'} {sink} {sink'} {status} none to
       holds = λ t. subst (λ (o : Option Command). SeenInStore (forms o) (image_of_store (g.bytes store)) (image_of_store (g.bytes store))) (sym none) refl;
       counts = record { clock_first = refl; clock_last = refl; reads_first = refl; reads_last = refl; writes_first = refl; writes_last = refl };
       ends = faulty_words none told.two told.same (λ t moment image left. left) (stays m told.prints);
-      carries_out = λ nothing. subst (λ (o : Option Command). CarriesOut o (IsTrue g.tells) source m m [] status) (sym none) tt;
+      refused_only = subst (λ (o : Option Command). MayRefuse o None) (sym none) refl;
+      carries_out = λ nothing. subst (λ (o : Option Command). CarriesOut o (path_word words) (IsTrue g.tells) source m m [] status) (sym none) tt;
     }
 
 -- on a file that was not opened
-pub faulty_on_file : {words : List (List ℕ)} {source source' sink sink' : Stream} {status : ℕ} → command_of words ≡ None → ToldFaulty source source' sink sink' status → EndsOnFile words source source' sink sink' status
-faulty_on_file none told =
+pub faulty_on_file : {words : List (List ℕ)} {source source' sink sink' : Stream} {status : ℕ} → command_of words ≡ None → ToldFaulty source source' sink sink' status → EndsOnFile words source source' sink sink' None status
+faulty_on_file {words} none told =
     let m : Medium = medium (record { blocks = 0; pages = 0 }) (record { blocks = 0; pages = 0; contents = [] }) 0 0 0 in
-    (m, m, [], [], faulty_words none told.two told.same tt (stays m told.prints))
+    (m, m, [], [], faulty_words none told.two told.same tt (stays m told.prints), subst (λ (o : Option Command). MayRefuse o None) (sym none) refl)
 
 -- on a file that was: of a store that does not tell its bytes
-pub on_file : {B : Type 0} (g : Ghosts B) {words : List (List ℕ)} {old new : B} {source source' sink sink' : Stream} {status : ℕ} → g.tells ≡ false → EndsOnStore g words old new source source' sink sink' status
-    → EndsOnFile words source source' sink sink' status
-on_file g {words} {old} {new} {source} {source'} {sink} {sink'} {status} untold e = (
+pub on_file : {B : Type 0} (g : Ghosts B) {words : List (List ℕ)} {old new : B} {source source' sink sink' : Stream} {refused : Option Refusal} {status : ℕ} → g.tells ≡ false
+    → EndsOnStore g words old new source source' sink sink' refused status → EndsOnFile words source source' sink sink' refused status
+on_file g {words} {old} {new} {source} {source'} {sink} {sink'} {refused} {status} untold e = (
   e.before,
   e.after,
   e.order,
   e.syncs,
-  ends_by (λ l kept. tt) source source' sink sink' e.before e.after e.order e.syncs status words
-      (subst (λ (b : Bool). CallEnds (IsTrue b) words (leaves_in_store g old new) source source' sink sink' e.before e.after e.order e.syncs status) untold e.ends),
+  ends_by (λ l kept. tt) source source' sink sink' e.before e.after e.order e.syncs refused status words
+      (subst (λ (b : Bool). CallEnds (IsTrue b) words (leaves_in_store g old new) source source' sink sink' e.before e.after e.order e.syncs refused status) untold e.ends),
+  e.refused_only,
 )

@@ -1,6 +1,9 @@
 -- How the words of a command line end on a store of bytes: as on a medium, with what it holds, and what a stop leaves, in words of the
 -- bytes.
-use Rattle.std.specs.Prelude.{◌≡◌, ◌⊎◌, ℕ, Bool, true, false, IsTrue, List}
+use Rattle.std.specs.Prelude.{◌≡◌, ◌⊎◌, ◌+◌, ℕ, Bool, true, false, IsTrue, List, Option}
+use Rattle.nl_app_process.specs.declared.notice.Notice.{Notice}
+use Rattle.nl_app_process.specs.declared.notice.Notice.TheVariants as notice
+use Rattle.nl_field.specs.CrashStates.{saturated}
 use Rattle.nl_field.specs.Page.{Image}
 use Rattle.nl_store.specs.declared.store.Store.{Ghosts}
 use Rattle.nl_imgfile.specs.DiskImage.{SameOrBlank, image_of_store}
@@ -9,11 +12,13 @@ use Rattle.nl_spec_image.specs.Stands.{ConsistentAs}
 use Rattle.nl_volume_format.specs.Making.{OpensAsNew}
 use Rattle.nl_cmd_words.specs.Command.{command_of}
 use Rattle.nl_cmd_words.specs.Complete.{NothingRose}
+use Rattle.nl_cmd_words.specs.Paths.{path_word}
 use Rattle.nl_spec_headline.specs.Streams.{Medium, Stream}
 use Rattle.nl_spec_headline.specs.declared.lists.Ordered.{Ordered}
 use Rattle.nl_spec_headline.specs.declared.lists.Synced.{Synced}
+use Rattle.nl_tree.specs.declared.reply.Refusal.{Refusal}
 use Rattle.nl_top.specs.Complete.{CarriesOut}
-use Rattle.nl_top.specs.Ends.{CallEnds}
+use Rattle.nl_top.specs.Ends.{CallEnds, MayRefuse}
 use Rattle.nl_top.specs.Leaving.{Leaving, nothing_new, new_volume, prefixes_of}
 use Rattle.nl_app_file.specs.Ended.{forms}
 
@@ -47,7 +52,7 @@ pub record CountsOfStore {B : Type 0} (g : Ghosts B) (old new : B) (before after
 
 -- The call ends as a call of `nameless` on a medium that held the image that the store's bytes were, and counted as the store does.
 pub record EndsOnStore {B : Type 0} (g : Ghosts B) (words : List (List ℕ)) (old new : B) (source source' sink sink' : Stream)
-    (status : ℕ) : Type 0 where
+    (refused : Option Refusal) (status : ℕ) : Type 0 where
   pub before : Medium
   pub after : Medium
   pub order : List Ordered
@@ -55,6 +60,15 @@ pub record EndsOnStore {B : Type 0} (g : Ghosts B) (words : List (List ℕ)) (ol
   pub starts : IsTrue g.tells → before.contents ≡ image_of_store (g.bytes old)
   pub holds : IsTrue g.tells → SeenInStore (forms (command_of words)) (image_of_store (g.bytes new)) after.contents
   pub counts : CountsOfStore g old new before after
-  pub ends : CallEnds (IsTrue g.tells) words (leaves_in_store g old new) source source' sink sink' before after order syncs status
+  pub ends : CallEnds (IsTrue g.tells) words (leaves_in_store g old new) source source' sink sink' before after order syncs refused status
+  pub refused_only : MayRefuse (command_of words) refused
   pub carries_out : NothingRose source source' sink sink' before after
-      → CarriesOut (command_of words) (IsTrue g.tells) source before after order status
+      → CarriesOut (command_of words) (path_word words) (IsTrue g.tells) source before after order status
+
+-- Why a notice came in the place of a status: one read of the store failed, and was counted; or memory was wanting, and nothing was done to
+-- it. No other notice comes of a store.
+abbrev pub HasNoticeCause : {B : Type 0} → (B → ℕ) → Notice → B → B → Type 0
+HasNoticeCause read_faults notice.MediumFault old new = read_faults new ≡ saturated (read_faults old + 1)
+HasNoticeCause read_faults notice.Memory old new = new ≡ old
+HasNoticeCause read_faults notice.Words old new = ⊥
+HasNoticeCause read_faults notice.MediumInUse old new = ⊥

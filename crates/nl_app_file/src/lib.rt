@@ -5,5 +5,5 @@ mod on_store;
 mod program;
 
 pub use nl_app_process::Notice;
-pub use on_store::{OnStore, answer_on};
+pub use on_store::{Ending, OnStore, answer_on};
 pub use program::answer;

@@ -4,23 +4,31 @@ ghost use Rattle.nl_cmd_words.specs.Command.{command_of};
 ghost use Rattle.nl_spec_headline.specs.Streams.{Prints, stream};
 ghost use Rattle.nl_store.specs.Store.{StoreOnlyRead};
 ghost use Rattle.nl_app_file.specs.Ended.{forms, makes_a_file};
-ghost use Rattle.nl_app_file.specs.OnStore.{EndsOnStore};
+ghost use Rattle.nl_app_file.specs.OnStore.{EndsOnStore, HasNoticeCause};
 
 use nl_app_process::Notice;
 use nl_field::FailList;
-use nl_imgfile::{Attach, FormingNand, OpenedNand};
+use nl_imgfile::{FormingNand, OpenedNand, StoreAttach};
 use nl_io::{Sink, Source, Words};
 use nl_nand::MemNand;
 use nl_store::Store;
 use nl_top::{Command, Done, NoGate, command_of, nameless};
+use nl_tree::Refusal;
 use std::alloc::Global;
 use std::sync::Wait;
 use std::thread::Threads;
 
-/// How the words of a command line ended on a store: with which status, or with a notice in its place. The store is given back.
+/// How the words of a command line ended: with which status, and with which refusal of the tree, where the command was one on a path.
+#[derive(Clone, Copy, Debug, PartialEq, Eq)]
+pub struct Ending {
+    pub status: u8,
+    pub refused: Option<Refusal>,
+}
+
+/// How the words of a command line ended on a store, or a notice in its place. The store is given back.
 #[derive(Drop)]
 pub struct OnStore<B> {
-    pub status: Result<u8, Notice>,
+    pub ending: Result<Ending, Notice>,
     pub store: B,
 }
 
@@ -31,7 +39,7 @@ pub fn makes_a_file(command: Command) -> bool
     matches!(command, Command::Format(_, _))
 }
 
-/// Answers the words of a command line on the medium that a store holds, and gives the status, which is that of `nameless`. What the
+/// Answers the words of a command line on the medium that a store holds, and gives the ending, which is that of `nameless`. What the
 /// medium holds, and what a stop leaves of it, is said of the store's bytes: where the store tells them, the image that they are is what
 /// the sentences of `nameless` speak of, and whatever a kill leaves of them at any moment of the call, but within a forming that is done, is
 /// an image of which they say the same.
@@ -46,20 +54,23 @@ pub fn answer_on<Rt: Threads + Wait + Sync, S: Source, K: Sink, B: Store + Send>
     sink: &mut K,
     store: B,
 ) -> OnStore<B>
-    ensures faulty { command_of words.now ≡ None → result.status ≡ Ok 2 }
-    ensures ended { IfOk result.status (EndsOnStore B.Store words.now store result.store (stream (S.left src.old) (S.faults src.old))
-        (stream (S.left src.new) (S.faults src.new))
-        (stream (K.taken sink.old) (K.faults sink.old)) (stream (K.taken sink.new) (K.faults sink.new))) }
-    ensures untouched { OnErr result.status ((src.new ≡ src.old) × (sink.new ≡ sink.old)
+    ensures faulty { command_of words.now ≡ None → result.ending ≡ Ok (record { status = 2; refused = None }) }
+    ensures ended { IfOk result.ending (λ e. EndsOnStore B.Store words.now store result.store (stream (S.left src.old) (S.faults src.old))
+        (stream (S.left src.new) (S.faults src.new)) (stream (K.taken sink.old) (K.faults sink.old))
+        (stream (K.taken sink.new) (K.faults sink.new)) e.refused e.status) }
+    ensures untouched { OnErr result.ending ((src.new ≡ src.old) × (sink.new ≡ sink.old)
         × StoreOnlyRead B.bytes B.moment B.left store result.store) }
-    ensures of_the_store { IfErr result.status (λ notice. (notice ≡ Notice.Words → ⊥) × (notice ≡ Notice.MediumInUse → ⊥)) }
+    ensures cause { IfErr result.ending (λ notice. HasNoticeCause B.read_faults notice store result.store) }
 {
     let command = match command_of(words) {
         Some(command) => command,
         None => {
             let status = tell_faulty(rt, alloc, words, src, sink);
             return OnStore {
-                status: Ok(status),
+                ending: Ok(Ending {
+                    status,
+                    refused: None,
+                }),
                 store,
             };
         }
@@ -88,6 +99,7 @@ pub fn tell_faulty<Rt: Threads + Wait + Sync, S: Source, K: Sink>(
     let media = MemNand::new(alloc, FailList::new(alloc), FailList::new(alloc), None);
     let Done {
         status,
+        refused: _,
         media: _,
         syncs: _,
         order: _,
@@ -105,32 +117,33 @@ fn open_on<Rt: Threads + Wait + Sync, S: Source, K: Sink, B: Store + Send>(
     store: B,
 ) -> OnStore<B>
     requires { forms (command_of words.now) ≡ false }
-    ensures ended { IfOk result.status (EndsOnStore B.Store words.now store result.store (stream (S.left src.old) (S.faults src.old))
-        (stream (S.left src.new) (S.faults src.new))
-        (stream (K.taken sink.old) (K.faults sink.old)) (stream (K.taken sink.new) (K.faults sink.new))) }
-    ensures untouched { OnErr result.status ((src.new ≡ src.old) × (sink.new ≡ sink.old)
+    ensures ended { IfOk result.ending (λ e. EndsOnStore B.Store words.now store result.store (stream (S.left src.old) (S.faults src.old))
+        (stream (S.left src.new) (S.faults src.new)) (stream (K.taken sink.old) (K.faults sink.old))
+        (stream (K.taken sink.new) (K.faults sink.new)) e.refused e.status) }
+    ensures untouched { OnErr result.ending ((src.new ≡ src.old) × (sink.new ≡ sink.old)
         × StoreOnlyRead B.bytes B.moment B.left store result.store) }
-    ensures of_the_store { IfErr result.status (λ notice. (notice ≡ Notice.Words → ⊥) × (notice ≡ Notice.MediumInUse → ⊥)) }
+    ensures cause { IfErr result.ending (λ notice. HasNoticeCause B.read_faults notice store result.store) }
 {
     match OpenedNand::attach(alloc, store) {
         Ok(media) => {
             let Done {
                 status,
+                refused,
                 media,
                 syncs: _,
                 order: _,
             } = nameless(rt, alloc, words, src, sink, media, &NoGate);
             OnStore {
-                status: Ok(status),
+                ending: Ok(Ending { status, refused }),
                 store: media.into_store(),
             }
         }
-        Err(Attach::Fault(store)) => OnStore {
-            status: Err(Notice::MediumFault),
+        Err(StoreAttach::Fault(store)) => OnStore {
+            ending: Err(Notice::MediumFault),
             store,
         },
-        Err(Attach::Memory(store)) => OnStore {
-            status: Err(Notice::Memory),
+        Err(StoreAttach::Memory(store)) => OnStore {
+            ending: Err(Notice::Memory),
             store,
         },
     }
@@ -146,32 +159,33 @@ fn format_on<Rt: Threads + Wait + Sync, S: Source, K: Sink, B: Store + Send>(
     store: B,
 ) -> OnStore<B>
     requires { forms (command_of words.now) ≡ true }
-    ensures ended { IfOk result.status (EndsOnStore B.Store words.now store result.store (stream (S.left src.old) (S.faults src.old))
-        (stream (S.left src.new) (S.faults src.new))
-        (stream (K.taken sink.old) (K.faults sink.old)) (stream (K.taken sink.new) (K.faults sink.new))) }
-    ensures untouched { OnErr result.status ((src.new ≡ src.old) × (sink.new ≡ sink.old)
+    ensures ended { IfOk result.ending (λ e. EndsOnStore B.Store words.now store result.store (stream (S.left src.old) (S.faults src.old))
+        (stream (S.left src.new) (S.faults src.new)) (stream (K.taken sink.old) (K.faults sink.old))
+        (stream (K.taken sink.new) (K.faults sink.new)) e.refused e.status) }
+    ensures untouched { OnErr result.ending ((src.new ≡ src.old) × (sink.new ≡ sink.old)
         × StoreOnlyRead B.bytes B.moment B.left store result.store) }
-    ensures of_the_store { IfErr result.status (λ notice. (notice ≡ Notice.Words → ⊥) × (notice ≡ Notice.MediumInUse → ⊥)) }
+    ensures cause { IfErr result.ending (λ notice. HasNoticeCause B.read_faults notice store result.store) }
 {
     match FormingNand::attach(alloc, store) {
         Ok(media) => {
             let Done {
                 status,
+                refused,
                 media,
                 syncs: _,
                 order: _,
             } = nameless(rt, alloc, words, src, sink, media, &NoGate);
             OnStore {
-                status: Ok(status),
+                ending: Ok(Ending { status, refused }),
                 store: media.into_store(),
             }
         }
-        Err(Attach::Fault(store)) => OnStore {
-            status: Err(Notice::MediumFault),
+        Err(StoreAttach::Fault(store)) => OnStore {
+            ending: Err(Notice::MediumFault),
             store,
         },
-        Err(Attach::Memory(store)) => OnStore {
-            status: Err(Notice::Memory),
+        Err(StoreAttach::Memory(store)) => OnStore {
+            ending: Err(Notice::Memory),
             store,
         },
     }

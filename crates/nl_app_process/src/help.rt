@@ -14,6 +14,8 @@ Usage:
   nameless IMAGE tree            prints every path
   nameless IMAGE report          prints what the volume takes of what there is
   nameless IMAGE map             prints what is found on each page
+  nameless IMAGE map svg         prints that as a picture, which a browser shows
+  nameless IMAGE get PATH        prints the bytes of a file
   nameless IMAGE check           prints what is at fault
   nameless IMAGE soak SEED N W   runs a drawn script of N lines for each of W workers, and prints a summary
   nameless --help                prints this text
@@ -32,7 +34,8 @@ DATA is two hexadecimal digits for each byte, or - for none; BYTE is two such di
 Status:
   0  all was done
   2  words: the command line is none of these, or a number is not in its range;
-     script LINE COLUMN WHY: the script is refused
+     script LINE COLUMN WHY: the script is refused;
+     ENOENT, EISDIR and the like, on standard error: PATH is refused, as a script's `read` would be
   3  source fault: standard input could not be read
   4  standard output could not be written
   5  medium fault: the image file could not be opened, read or written; or an answer is a fault,

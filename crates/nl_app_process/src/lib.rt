@@ -5,8 +5,10 @@ mod arguments;
 mod help;
 mod image;
 mod notice;
+mod refusal;
 
 pub use arguments::{Request, request_of};
 pub use help::{HELP, VERSION};
 pub use image::open;
 pub use notice::Notice;
+pub use refusal::refusal_name;

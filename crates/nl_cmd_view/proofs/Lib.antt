@@ -1,3 +1,10 @@
 pub mod Completing
 pub mod Seen
 pub mod Viewed
+pub mod Reading
+pub mod Sizes
+pub mod Texts
+pub mod Printed
+pub mod Answered
+pub mod Ended
+pub mod GetCompleting

@@ -1,2 +1,4 @@
 pub mod Complete
 pub mod Looking
+pub mod Getting
+pub mod Pieces

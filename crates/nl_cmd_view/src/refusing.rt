@@ -1,5 +1,5 @@
 // The ending of a command whose volume was not opened.
-ghost use Rattle.std.specs.Prelude.{◌≡◌, [], ℕ, List};
+ghost use Rattle.std.specs.Prelude.{◌≡◌, [], ℕ, List, None};
 ghost use Rattle.nl_cmd_words.specs.Ends.{NotOpened as WasNotOpened};
 ghost use Rattle.nl_spec_headline.specs.Streams.{Prints, medium_seen, sink_seen};
 ghost use Rattle.nl_volume.specs.Opened.{IsReason, medium_in};
@@ -13,6 +13,7 @@ use std::alloc::Global;
 
 /// Prints why no volume was opened.
 pub fn refused<K: Sink, M: Nand>(alloc: Global, why: NotOpened<M>, sink: &mut K) -> Done<M>
+    ensures refused { result.refused ≡ None }
     ensures media { result.media ≡ medium_in why }
     ensures order { result.order.items ≡ [] }
     ensures syncs { result.syncs.items ≡ [] }

@@ -1,5 +1,5 @@
 // The command that prints the report of the volume of a medium.
-ghost use Rattle.std.specs.Prelude.{◌≡◌, ℕ};
+ghost use Rattle.std.specs.Prelude.{◌≡◌, ℕ, None};
 ghost use Rattle.nl_field.specs.Page.{Image};
 ghost use Rattle.nl_spec_headline.specs.Streams.{medium_seen, sink_seen};
 ghost use Rattle.nl_cmd_view.specs.Looking.{LookEnds, ReportsImage};
@@ -19,6 +19,7 @@ pub fn report<K: Sink, M: Nand>(alloc: Global, sink: &mut K, media: M) -> Done<M
     ensures ended { LookEnds M.tells ReportsImage (sink_seen K.Sink sink.old) (sink_seen K.Sink sink.new)
         (medium_seen M.Nand media) (medium_seen M.Nand result.media)
         result.order.items result.syncs.items result.status }
+    ensures refused { result.refused ≡ None }
     ensures left { M.tells → (m : ℕ) (c : Image) → M.left result.media m c → M.left media m c }
 {
     let before = faults_of(&media);

@@ -1,5 +1,5 @@
 // The command that prints every path of the tree of a medium.
-ghost use Rattle.std.specs.Prelude.{◌≡◌, ◌⊎◌, ℕ, []};
+ghost use Rattle.std.specs.Prelude.{◌≡◌, ◌⊎◌, ℕ, [], None};
 ghost use Rattle.nl_cmd_words.specs.Ends.{IsStatusOf};
 ghost use Rattle.nl_field.specs.CrashStates.{Rose};
 ghost use Rattle.nl_field.specs.Page.{Image};
@@ -20,6 +20,7 @@ pub fn tree<K: Sink, M: Nand>(alloc: Global, sink: &mut K, media: M) -> Done<M>
     ensures ended { TreeEnds M.tells (sink_seen K.Sink sink.old) (sink_seen K.Sink sink.new)
         (medium_seen M.Nand media) (medium_seen M.Nand result.media)
         result.order.items result.syncs.items result.status }
+    ensures refused { result.refused ≡ None }
     ensures left { M.tells → (m : ℕ) (c : Image) → M.left result.media m c → M.left media m c }
 {
     let before = faults_of(&media);
@@ -45,6 +46,7 @@ fn ending_of<M: Nand>(alloc: Global, before: Faults, shown: Shown, media: M) -> 
         (Rose before.reads (M.read_faults media) ⊎ Rose before.writes (M.write_faults media)) SinkAnswer.Took }
     ensures not_taken { shown ≡ Shown.NotTaken
         → IsStatusOf result.status (Rose before.reads (M.read_faults media) ⊎ Rose before.writes (M.write_faults media)) SinkAnswer.Failed }
+    ensures refused { result.refused ≡ None }
     ensures media { result.media ≡ media }
     ensures order { result.order.items ≡ [] }
     ensures syncs { result.syncs.items ≡ [] }

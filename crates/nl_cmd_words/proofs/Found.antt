@@ -65,6 +65,7 @@ check_found walk_finds_consistency tells bits count reads writes sink sink' medi
           some = some;
           text_is = refl;
           are = λ t. (checks t).findings;
+          all = λ t. (checks t).each;
           first = λ t. found_damaged walk_finds_consistency medium.contents (whole t) bits count (checks t) some (readable t);
         })
         (record { prints = told.1; untouched = untouched; no_lines = no_lines; no_syncs = no_syncs })

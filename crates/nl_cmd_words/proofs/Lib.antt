@@ -4,3 +4,4 @@ pub mod Formed
 pub mod Found
 pub mod Completing
 pub mod Reading
+pub mod Spelled

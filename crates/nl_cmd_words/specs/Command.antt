@@ -1,9 +1,10 @@
 -- The words of a command line.
-use Rattle.std.specs.Prelude.{ℕ, ⊤, ◌<◌, ◌≤◌, nat_le, nat_lt, ◌&&◌, IsTrue, if◌then◌else◌, List, [], ◌∷◌, codes, bytes_eq, Option, Some, None}
+use Rattle.std.specs.Prelude.{ℕ, ⊤, ◌<◌, ◌≤◌, nat_le, nat_lt, ◌&&◌, IsTrue, if◌then◌else◌, List, [], ◌∷◌, codes, bytes_eq, Option, Some, None, IsSome}
 use Rattle.nl_field.specs.Numbers.{is_legal}
 use Rattle.nl_script.specs.Spellings.{digits_of}
+use Rattle.nl_cmd_words.specs.Paths.{path_word, spelled_path}
 use Rattle.nl_cmd_words.specs.declared.command.Command.{Command}
-use Rattle.nl_cmd_words.specs.declared.command.Command.TheVariants.{Format, Run, Check, Tree, Report, Map, Soak}
+use Rattle.nl_cmd_words.specs.declared.command.Command.TheVariants.{Format, Run, Check, Tree, Report, Map, MapSvg, Get, Soak}
 
 -- a geometry that a volume can have
 abbrev pub format_of : Option ℕ → Option ℕ → Option Command
@@ -29,9 +30,16 @@ plain_command word =
     else if bytes_eq word (codes "map") then Some Map
     else None
 
--- The command that the words name. None where they name none, or where their numbers are no spellings or illegal.
+-- a word and a path
+abbrev pub path_command : List ℕ → Option (List (List ℕ)) → Option Command
+path_command word (Some path) = if bytes_eq word (codes "get") then Some Get else None
+path_command word None = None
+
+-- The command that the words name. None where they name none, where their numbers are no spellings or illegal, or where a path is none.
 abbrev pub command_of : List (List ℕ) → Option Command
 command_of (word ∷ []) = plain_command word
+command_of (word ∷ path ∷ []) =
+    if bytes_eq word (codes "map") && bytes_eq path (codes "svg") then Some MapSvg else path_command word (spelled_path path)
 command_of (word ∷ blocks ∷ pages ∷ []) = if bytes_eq word (codes "format") then format_of (digits_of blocks) (digits_of pages) else None
 command_of (word ∷ seed ∷ lines ∷ workers ∷ []) =
     if bytes_eq word (codes "soak") then soak_of (digits_of seed) (digits_of lines) (digits_of workers) else None
@@ -42,3 +50,8 @@ abbrev pub IsLegalCommand : Command → Type 0
 IsLegalCommand (Format blocks pages) = IsTrue (is_legal blocks pages)
 IsLegalCommand (Soak seed lines workers) = (0 < lines) × (lines ≤ 20000) × (0 < workers) × (workers ≤ 8)
 IsLegalCommand command = ⊤
+
+-- the words of a command on one path have it
+abbrev pub HasPath : List (List ℕ) → Command → Type 0
+HasPath words Get = IsSome (path_word words)
+HasPath words command = ⊤

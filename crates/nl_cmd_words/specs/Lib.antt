@@ -3,3 +3,4 @@ pub mod Complete
 pub mod Ends
 pub mod Input
 pub mod Others
+pub mod Paths

@@ -7,7 +7,8 @@ use Rattle.nl_field.specs.Page.{Image}
 use Rattle.nl_field.specs.declared.findings.Findings.{Findings}
 use Rattle.nl_field.specs.declared.place.Place.{Place}
 use Rattle.nl_spec_headline.specs.Streams.{Medium}
-use Rattle.nl_meta.specs.Walk.{AreFindings, walk}
+use Rattle.nl_check.specs.Told.{TellsFaults}
+use Rattle.nl_meta.specs.Walk.{AreFindings, phase_fault, walk}
 use Rattle.nl_print.specs.Texts.{findings_text, formatted_text, sound_text}
 use Rattle.nl_spec_image.specs.Formatted.{IsFormatted}
 use Rattle.nl_spec_image.specs.Stands.{IsConsistentImage, ConsistentAs}
@@ -43,10 +44,12 @@ pub record FindsConsistent (tells : Type 0) (image : Image) (text : List ℕ) : 
   pub text_is : text ≡ sound_text count
   pub sound : tells → (tree : Tree) × ConsistentAs image count tree
 
--- Some findings, which are those of the image: it has a readable page and is not sound.
+-- Some findings, which are those of the image: it has a readable page and is not sound. Each phase that can be judged is among them exactly
+-- where it has a fault.
 pub record FindsFaults (tells : Type 0) (image : Image) (text : List ℕ) : Type 0 where
   pub found : Findings
   pub some : bits_of found ≢ 0
   pub text_is : text ≡ findings_text found
   pub are : tells → AreFindings image (has_finding found)
+  pub all : tells → TellsFaults (phase_fault image) found
   pub first : tells → (place : Place) × IsDamaged image place

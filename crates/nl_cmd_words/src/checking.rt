@@ -1,5 +1,5 @@
 // The command that checks what a medium holds.
-ghost use Rattle.std.specs.Prelude.{◌≡◌, ◌≢◌, ◌⊎◌, ◌≤◌, ℕ, []};
+ghost use Rattle.std.specs.Prelude.{◌≡◌, ◌≢◌, ◌⊎◌, ◌≤◌, ℕ, [], None};
 ghost use Rattle.nl_field.specs.CrashStates.{Rose};
 ghost use Rattle.nl_field.specs.FindingBits.{bits_of};
 ghost use Rattle.nl_field.specs.Page.{Image};
@@ -23,6 +23,7 @@ pub fn check<K: Sink, M: Nand>(alloc: Global, sink: &mut K, media: M) -> Done<M>
     ensures ended { CheckEnds M.tells (sink_seen K.Sink sink.old) (sink_seen K.Sink sink.new)
         (medium_seen M.Nand media) (medium_seen M.Nand result.media)
         result.order.items result.syncs.items result.status }
+    ensures refused { result.refused ≡ None }
     ensures left { M.tells → (m : ℕ) (c : Image) → M.left result.media m c → M.left media m c }
 {
     walk_finds_consistency();
@@ -52,6 +53,7 @@ fn print_found<K: Sink, M: Nand>(
         (sink_seen K.Sink sink.old) (sink_seen K.Sink sink.new) (sound_text count) }
     ensures faults { bits_of bits ≢ 0 → (result.status ≡ 8)
         × Prints (sink_seen K.Sink sink.old) (sink_seen K.Sink sink.new) (findings_text bits) }
+    ensures refused { result.refused ≡ None }
     ensures media { result.media ≡ media }
     ensures order { result.order.items ≡ [] }
     ensures syncs { result.syncs.items ≡ [] }

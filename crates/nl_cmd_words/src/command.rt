@@ -1,8 +1,10 @@
 // The words of a command line.
 ghost use Rattle.std.specs.Prelude.{◌≡◌, IfSome};
 ghost use Rattle.nl_script.specs.Spellings.{digits_of};
-ghost use Rattle.nl_cmd_words.specs.Command.{IsLegalCommand, command_of, format_of, plain_command, soak_of};
+ghost use Rattle.nl_cmd_words.specs.Command.{HasPath, IsLegalCommand, command_of, format_of, path_command, plain_command, soak_of};
+ghost use Rattle.nl_cmd_words.specs.Paths.{spelled_path};
 
+use crate::paths::is_path;
 use crate::word::number_of;
 use nl_field::shape_of;
 use nl_io::Words;
@@ -22,6 +24,10 @@ pub enum Command {
     Report,
     /// Prints what is found on each page.
     Map,
+    /// Prints that as a picture.
+    MapSvg,
+    /// Prints the bytes of the file at the path behind it.
+    Get,
     /// Runs the script that is drawn from a seed, of so many lines for each of so many workers, and prints a summary.
     Soak(u64, u32, u8),
 }
@@ -78,13 +84,29 @@ fn plain_command(word: &[u8]) -> Option<Command>
     }
 }
 
-/// The command that the words name, None exactly where they name none or its numbers are illegal.
+// The command of a word and a path.
+fn path_command(word: &[u8], path: &[u8]) -> Option<Command>
+    ensures { result ≡ path_command word.now (spelled_path path.now) }
+{
+    if is_path(path) && word == b"get".as_slice() {
+        Some(Command::Get)
+    } else {
+        None
+    }
+}
+
+/// The command that the words name, None exactly where they name none, its numbers are illegal, or its path is none.
 pub fn command_of(words: &Words) -> Option<Command>
     ensures command { result ≡ command_of words.now }
     ensures legal { IfSome result IsLegalCommand }
+    ensures path { IfSome result (HasPath words.now) }
 {
     match words.as_slice() {
         [word] => plain_command(word.bytes()),
+        [word, form] if word.bytes() == b"map".as_slice() && form.bytes() == b"svg".as_slice() => {
+            Some(Command::MapSvg)
+        }
+        [word, path] => path_command(word.bytes(), path.bytes()),
         [word, blocks, pages] if word.bytes() == b"format".as_slice() => {
             format_of(blocks.bytes(), pages.bytes())
         }

@@ -1,5 +1,5 @@
 // The command that makes a volume on a medium.
-ghost use Rattle.std.specs.Prelude.{◌⊎◌, ℕ, IsTrue};
+ghost use Rattle.std.specs.Prelude.{◌≡◌, ◌⊎◌, ℕ, IsTrue, None};
 ghost use Rattle.nl_field.specs.Numbers.{is_legal};
 ghost use Rattle.nl_field.specs.Page.{Image};
 ghost use Rattle.nl_spec_headline.specs.Streams.{medium_seen, sink_seen};
@@ -27,6 +27,7 @@ pub fn format<K: Sink, M: Nand>(
     ensures ended { FormatEnds M.tells blocks pages (sink_seen K.Sink sink.old) (sink_seen K.Sink sink.new)
         (medium_seen M.Nand media) (medium_seen M.Nand result.media)
         result.order.items result.syncs.items result.status }
+    ensures refused { result.refused ≡ None }
     ensures stops { M.tells → (m : ℕ) (c : Image) → M.left result.media m c → M.left media m c ⊎ OpensAsNew c }
 {
     let before = faults_of(&media);

@@ -7,6 +7,7 @@ mod command;
 mod forming;
 mod input;
 pub mod laws;
+mod paths;
 pub mod rows;
 mod script;
 mod status;
@@ -15,6 +16,7 @@ mod word;
 pub use checking::check;
 pub use command::{Command, command_of};
 pub use forming::format;
+pub use paths::path_word;
 pub use script::{Script, drawn_lines, read_script};
 pub use status::{
     Done, Faults, carried_out, ended, faults_of, has_failed, status_of, without_lines,

@@ -1,5 +1,5 @@
 // The status of a call, and the endings that print one line.
-ghost use Rattle.std.specs.Prelude.{◌≡◌, ◌⊎◌, ◌↔◌, [], ◌∷◌, ◌++◌, false, IsTrue};
+ghost use Rattle.std.specs.Prelude.{◌≡◌, ◌⊎◌, ◌↔◌, [], ◌∷◌, ◌++◌, false, IsTrue, None};
 ghost use Rattle.nl_field.specs.CrashStates.{Rose};
 ghost use Rattle.nl_spec_headline.specs.Streams.{Prints, sink_seen};
 ghost use Rattle.nl_cmd_words.specs.Ends.{IsStatusOf};
@@ -8,12 +8,15 @@ use nl_io::{Sink, SinkAnswer};
 use nl_nand::Nand;
 use nl_print::word_line;
 use nl_spec_headline::{OrderList, SyncList};
+use nl_tree::Refusal;
 use std::alloc::Global;
 
 /// What a call of the store leaves: its status, the medium, the syncs that were answered ok and the answered lines, in the order of their
 /// places.
 pub struct Done<M> {
     pub status: u8,
+    /// Why the tree refuses what a command on one path was to do; None for every other ending.
+    pub refused: Option<Refusal>,
     pub media: M,
     pub syncs: SyncList,
     pub order: OrderList,
@@ -22,12 +25,14 @@ pub struct Done<M> {
 /// An ending at which no line was run.
 pub fn without_lines<M>(alloc: Global, status: u8, media: M) -> Done<M>
     ensures status { result.status ≡ status }
+    ensures refused { result.refused ≡ None }
     ensures media { result.media ≡ media }
     ensures order { result.order.items ≡ [] }
     ensures syncs { result.syncs.items ≡ [] }
 {
     Done {
         status,
+        refused: None,
         media,
         syncs: SyncList::new(alloc),
         order: OrderList::new(alloc),
@@ -37,6 +42,7 @@ pub fn without_lines<M>(alloc: Global, status: u8, media: M) -> Done<M>
 /// Ends with a status and a line of text, before any line was run.
 pub fn ended<K: Sink, M>(alloc: Global, status: u8, text: &[u8], sink: &mut K, media: M) -> Done<M>
     ensures status { result.status ≡ status }
+    ensures refused { result.refused ≡ None }
     ensures media { result.media ≡ media }
     ensures order { result.order.items ≡ [] }
     ensures syncs { result.syncs.items ≡ [] }
@@ -98,6 +104,7 @@ pub fn status_of(failed: bool, answer: SinkAnswer) -> u8
 /// medium has risen since, else 4 where the sink did not take the text.
 pub fn carried_out<M: Nand>(alloc: Global, before: Faults, answer: SinkAnswer, media: M) -> Done<M>
     ensures status { IsStatusOf result.status (Rose before.reads (M.read_faults media) ⊎ Rose before.writes (M.write_faults media)) answer }
+    ensures refused { result.refused ≡ None }
     ensures media { result.media ≡ media }
     ensures order { result.order.items ≡ [] }
     ensures syncs { result.syncs.items ≡ [] }

@@ -3,6 +3,7 @@ ghost use Rattle.std.specs.Prelude.{Some};
 ghost use Rattle.nl_spec_headline.specs.Streams.{medium_seen, stream};
 ghost use Rattle.nl_cmd_words.specs.Command.{command_of};
 ghost use Rattle.nl_cmd_words.specs.Complete.{NothingRose};
+ghost use Rattle.nl_cmd_words.specs.Paths.{path_word};
 ghost use Rattle.nl_top.specs.Complete.{CarriesOut};
 ghost use Rattle.nl_top.specs.Ends.{CallEnds};
 ghost use Rattle.nl_top.specs.Leaving.{leaves_within};
@@ -49,11 +50,12 @@ pub(crate) fn answer<Rt: Threads + Wait + Sync, M: Nand + Send>(
     ensures ended { CallEnds M.tells words.now (leaves_within M.Nand media result.media)
         (stream (Some source.old.left) source.old.faults) (stream (Some source.new.left) source.new.faults)
         (stream (Some sink.old.taken) sink.old.faults) (stream (Some sink.new.taken) sink.new.faults)
-        (medium_seen M.Nand media) (medium_seen M.Nand result.media) result.order.items result.syncs.items result.status }
+        (medium_seen M.Nand media) (medium_seen M.Nand result.media) result.order.items result.syncs.items
+        result.refused result.status }
     ensures completes { NothingRose (stream (Some source.old.left) source.old.faults) (stream (Some source.new.left) source.new.faults)
         (stream (Some sink.old.taken) sink.old.faults) (stream (Some sink.new.taken) sink.new.faults)
         (medium_seen M.Nand media) (medium_seen M.Nand result.media)
-        → CarriesOut (command_of words.now) M.tells (stream (Some source.old.left) source.old.faults)
+        → CarriesOut (command_of words.now) (path_word words.now) M.tells (stream (Some source.old.left) source.old.faults)
         (medium_seen M.Nand media) (medium_seen M.Nand result.media) result.order.items result.status }
 {
     nameless(rt, alloc, words, source, sink, media, &NoGate)
@@ -73,6 +75,7 @@ pub(crate) fn tell<Rt: Threads + Wait + Sync, M: Nand + Send + Drop>(
     let mut sink = MemSink::new(alloc, ROOM, FailList::new(alloc))?;
     let Done {
         status,
+        refused: _,
         media,
         syncs: _,
         order: _,

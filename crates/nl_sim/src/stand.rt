@@ -72,6 +72,7 @@ fn call<Rt: Threads + Wait + Sync>(
     let done = nameless(rt, alloc, words, source, &mut sink, before, &NoGate);
     let Done {
         status,
+        refused: _,
         media: after,
         syncs,
         order,

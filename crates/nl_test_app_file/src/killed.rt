@@ -77,10 +77,14 @@ fn put_at(bytes: &mut [u8], at: u64, from: &[u8]) -> bool {
 }
 
 impl Store for Killed {
-    ghost use Rattle.std.specs.Prelude.{false, ◌≡◌};
+    ghost use Rattle.std.specs.Prelude.{false, ◌≡◌, ⊤};
     ghost use Rattle.nl_test_app_file.specs.Killed.{moment_of, bytes_of, left_of, read_faults_of, write_faults_of, now_left as now_may_be_left};
 
     ghost tells = { false };
+
+    ghost Origin = { ⊤ };
+
+    ghost origin = { λ s. tt };
 
     ghost bytes = { bytes_of };
 

@@ -1,6 +1,6 @@
 // The program on a store in memory, killed within a write or with a write that fails, and run again on what was left.
 use crate::killed::{Killed, Trouble};
-use nl_app_file::{OnStore, answer_on};
+use nl_app_file::{Ending, OnStore, answer_on};
 use nl_field::{FailList, Memory, Text};
 use nl_io::{MemSink, MemSource, Words};
 use std::alloc::Global;
@@ -51,10 +51,11 @@ fn answered<Rt: AllocGlobal + Threads + Wait + Sync>(
     let words = words_of(alloc, text)?;
     let mut source = MemSource::new(Text::of(alloc, script)?, FailList::new(alloc));
     let store = Killed::new(bytes, trouble);
-    let OnStore { status, store } = answer_on(rt, alloc, &words, &mut source, sink, store);
+    let OnStore { ending, store } = answer_on(rt, alloc, &words, &mut source, sink, store);
     drop(source);
     drop(words);
-    Ok((status == Ok(0), store.into_bytes()))
+    let done = matches!(ending, Ok(Ending { status: 0, .. }));
+    Ok((done, store.into_bytes()))
 }
 
 fn has(text: &[u8], part: &[u8]) -> bool {

@@ -62,7 +62,10 @@ fn ended<Rt: Files<File = File> + AllocGlobal + Threads + Wait + Sync>(
     source: &mut MemSource,
     sink: &mut MemSink,
 ) -> Result<u8, Notice> {
-    answer(rt, path, words, source, sink)
+    match answer(rt, path, words, source, sink) {
+        Ok(ending) => Ok(ending.status),
+        Err(notice) => Err(notice),
+    }
 }
 
 fn is_told_to<Rt: Files<File = File> + AllocGlobal + Threads + Wait + Sync>(

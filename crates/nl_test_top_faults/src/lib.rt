@@ -2,6 +2,8 @@
 #![tactic(auto)]
 
 #[cfg(test)]
+mod gets;
+#[cfg(test)]
 mod reads;
 #[cfg(test)]
 mod saved;

@@ -11,10 +11,10 @@ use std::test::Fail;
 use std::thread::Threads;
 
 /// An opening of a new volume reads each of the 1024 pages, and then the two that were written. A making reads none.
-const OPENING: u64 = 1024 + 2;
+pub(crate) const OPENING: u64 = 1024 + 2;
 
 // A medium whose read of that number fails.
-fn failing(alloc: Global, read: u64) -> Result<MemNand, Memory> {
+pub(crate) fn failing(alloc: Global, read: u64) -> Result<MemNand, Memory> {
     Ok(MemNand::new(alloc, only(alloc, read)?, FailList::new(alloc), None))
 }
 
@@ -83,7 +83,7 @@ fn the_read_of_a_file_fails(rt: HostRuntime) -> Result<(), Fail> {
     Ok(())
 }
 
-const HELLO: [Step<'static>; 2] = [
+pub(crate) const HELLO: [Step<'static>; 2] = [
     FORMAT,
     (
         "run",

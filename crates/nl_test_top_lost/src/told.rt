@@ -50,6 +50,7 @@ fn call<Rt: Threads + Wait + Sync, G: Gate + Sync>(
     let done = nameless(rt, alloc, words, source, &mut sink, before, gate);
     let Done {
         status,
+        refused: _,
         media: after,
         syncs,
         order,

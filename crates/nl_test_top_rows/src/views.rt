@@ -90,14 +90,13 @@ fn the_order_of_paths(rt: HostRuntime) -> Result<(), Fail> {
     Ok(())
 }
 
-// Words, which write of the sink fails, and the text: each path is written by itself, a report at once,
-// and a map in two writes.
+// Words, which write of the sink fails, and the text: each path is written by itself, a report and both maps at once.
 const SINK: [(&str, u64, &str); 5] = [
     ("tree", 1, ""),
     ("tree", 2, "opened 0\n"),
     ("report", 1, ""),
     ("map", 1, ""),
-    ("map", 2, "opened 0\n"),
+    ("map svg", 1, ""),
 ];
 
 // Whether each is told as wanted.

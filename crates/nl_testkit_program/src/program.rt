@@ -3,6 +3,7 @@ use nl_field::{FailList, Memory, Text};
 use nl_io::{MemSink, MemSource, Words};
 use nl_nand::{MemNand, Stop};
 use nl_top::{Done, Gate, NoGate, OrderList, SyncList, nameless};
+use nl_tree::Refusal;
 use std::alloc::Global;
 use std::mem;
 use std::sync::Wait;
@@ -22,6 +23,7 @@ pub struct Given<'a> {
 #[derive(Drop)]
 pub struct Told {
     pub status: u8,
+    pub refused: Option<Refusal>,
     sink: MemSink,
     pub syncs: SyncList,
     pub order: OrderList,
@@ -91,6 +93,7 @@ fn call<Rt: Threads + Wait + Sync, G: Gate + Sync>(
     let done = nameless(rt, alloc, words, source, &mut sink, before, gate);
     let Done {
         status,
+        refused,
         media: after,
         syncs,
         order,
@@ -98,6 +101,7 @@ fn call<Rt: Threads + Wait + Sync, G: Gate + Sync>(
     *media = after;
     Told {
         status,
+        refused,
         sink,
         syncs,
         order,

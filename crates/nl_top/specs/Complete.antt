@@ -3,9 +3,11 @@ use Rattle.std.specs.Prelude.{◌≡◌, ◌⊎◌, ⊤, ℕ, ◌+◌, ◌-◌, 
 use Rattle.std.specs.List.{list_any}
 use Rattle.nl_field.specs.CrashStates.{top}
 use Rattle.nl_field.specs.Scan.{next_stamp_of}
+use Rattle.nl_cmd_view.specs.Complete.{IsCarriedOutUnless}
+use Rattle.nl_cmd_view.specs.Getting.{refusal_of_read}
 use Rattle.nl_cmd_words.specs.Complete.{IsCarriedOut, StartsConsistent}
 use Rattle.nl_cmd_words.specs.declared.command.Command.{Command}
-use Rattle.nl_cmd_words.specs.declared.command.Command.TheVariants.{Check, Format, Map, Report, Run, Soak, Tree}
+use Rattle.nl_cmd_words.specs.declared.command.Command.TheVariants.{Check, Format, Get, Map, MapSvg, Report, Run, Soak, Tree}
 use Rattle.nl_spec_headline.specs.Streams.{Medium, Stream}
 use Rattle.nl_spec_headline.specs.declared.lists.Ordered.{Ordered}
 use Rattle.nl_script.specs.Script.{script}
@@ -25,17 +27,22 @@ NoFaultAnswered order = list_any (λ o. is_some o.fault) order ≡ false
 abbrev pub RunCompletes : ℕ → List Ordered → Type 0
 RunCompletes status order = ((status ≡ 0) × NoFaultAnswered order) ⊎ (status ≡ 6)
 
--- Each command is carried out: a volume is made; a medium that starts consistent is checked, and its paths, its report and its map are printed; and while
--- counts last, the script that the source has left is run on it, and a soak, and no answer is a fault reply.
-abbrev pub CarriesOut : Option Command → Type 0 → Stream → Medium → Medium → List Ordered → ℕ → Type 0
-CarriesOut None tells source medium medium' order status = ⊤
-CarriesOut (Some (Format blocks pages)) tells source medium medium' order status = IsCarriedOut status
-CarriesOut (Some Run) tells source medium medium' order status =
+-- Each command is carried out: a volume is made; a medium that starts consistent is checked, and its paths, its report and its map are
+-- printed, and the file at the path of the words, where its tree does not refuse to read there; and while counts last, the script that the
+-- source has left is run on it, and a soak, and no answer is a fault reply.
+abbrev pub CarriesOut : Option Command → Option (List (List ℕ)) → Type 0 → Stream → Medium → Medium → List Ordered → ℕ → Type 0
+CarriesOut None path tells source medium medium' order status = ⊤
+CarriesOut (Some (Format blocks pages)) path tells source medium medium' order status = IsCarriedOut status
+CarriesOut (Some Run) path tells source medium medium' order status =
     (bytes : List ℕ) (lines : List Line) (count : ℕ) → source.bytes ≡ Some bytes → script bytes ≡ Ok lines → StartsConsistent tells medium count
     → CountsLast medium medium' → RunCompletes status order
-CarriesOut (Some Check) tells source medium medium' order status = (count : ℕ) → StartsConsistent tells medium count → IsCarriedOut status
-CarriesOut (Some Tree) tells source medium medium' order status = (count : ℕ) → StartsConsistent tells medium count → IsCarriedOut status
-CarriesOut (Some Report) tells source medium medium' order status = (count : ℕ) → StartsConsistent tells medium count → IsCarriedOut status
-CarriesOut (Some Map) tells source medium medium' order status = (count : ℕ) → StartsConsistent tells medium count → IsCarriedOut status
-CarriesOut (Some (Soak seed lines workers)) tells source medium medium' order status =
+CarriesOut (Some Check) path tells source medium medium' order status = (count : ℕ) → StartsConsistent tells medium count → IsCarriedOut status
+CarriesOut (Some Tree) path tells source medium medium' order status = (count : ℕ) → StartsConsistent tells medium count → IsCarriedOut status
+CarriesOut (Some Report) path tells source medium medium' order status = (count : ℕ) → StartsConsistent tells medium count → IsCarriedOut status
+CarriesOut (Some Map) path tells source medium medium' order status = (count : ℕ) → StartsConsistent tells medium count → IsCarriedOut status
+CarriesOut (Some MapSvg) path tells source medium medium' order status = (count : ℕ) → StartsConsistent tells medium count → IsCarriedOut status
+CarriesOut (Some Get) path tells source medium medium' order status =
+    (names : List (List ℕ)) (count : ℕ) → path ≡ Some names → (starts : StartsConsistent tells medium count)
+    → IsCarriedOutUnless (refusal_of_read starts.tree names) status
+CarriesOut (Some (Soak seed lines workers)) path tells source medium medium' order status =
     (count : ℕ) → StartsConsistent tells medium count → CountsLast medium medium' → RunCompletes status order

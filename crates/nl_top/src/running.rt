@@ -1,5 +1,5 @@
 // The command that runs the script of a source, and what it shares with a soak.
-ghost use Rattle.std.specs.Prelude.{◌≡◌};
+ghost use Rattle.std.specs.Prelude.{◌≡◌, None};
 ghost use Rattle.nl_spec_headline.specs.Streams.{medium_seen, sink_seen, source_seen};
 ghost use Rattle.nl_top.specs.Leaving.{leaves_within};
 ghost use Rattle.nl_top.specs.RunEnds.{RunEnds, ScriptEnds};
@@ -29,11 +29,12 @@ pub(crate) fn run<Rt: Threads + Wait + Sync, S: Source, K: Sink, M: Nand + Send,
     media: M,
     gate: &G,
 ) -> Done<M>
-    ensures { ScriptEnds M.tells (leaves_within M.Nand media result.media)
+    ensures ended { ScriptEnds M.tells (leaves_within M.Nand media result.media)
         (source_seen S.Source src.old) (source_seen S.Source src.new)
         (sink_seen K.Sink sink.old) (sink_seen K.Sink sink.new)
         (medium_seen M.Nand media) (medium_seen M.Nand result.media)
         result.order.items result.syncs.items result.status }
+    ensures refused { result.refused ≡ None }
 {
     match read_script(alloc, src) {
         Script::Lines(lines) => run_on(rt, alloc, &lines, Told::Answers, sink, media, gate),
@@ -56,9 +57,10 @@ pub(crate) fn run_on<Rt: Threads + Wait + Sync, K: Sink, M: Nand + Send, G: Gate
     media: M,
     gate: &G,
 ) -> Done<M>
-    ensures { RunEnds M.tells lines.now (PrintsCourse told M.tells) (leaves_within M.Nand media result.media) (sink_seen K.Sink sink.old)
+    ensures ended { RunEnds M.tells lines.now (PrintsCourse told M.tells) (leaves_within M.Nand media result.media) (sink_seen K.Sink sink.old)
         (sink_seen K.Sink sink.new) (medium_seen M.Nand media) (medium_seen M.Nand result.media)
         result.order.items result.syncs.items result.status }
+    ensures refused { result.refused ≡ None }
 {
     let Ok(mut tables) = tables_for(alloc, lines) else {
         return ended(alloc, 6, b"memory", sink, media);

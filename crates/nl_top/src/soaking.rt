@@ -1,5 +1,5 @@
 // The command that runs a script which is drawn from a seed, and prints a summary.
-ghost use Rattle.std.specs.Prelude.{◌≡◌, ◌<◌, ◌≤◌, List, Ok};
+ghost use Rattle.std.specs.Prelude.{◌≡◌, ◌<◌, ◌≤◌, List, None, Ok};
 ghost use Rattle.nl_gen.specs.Soak.{soak_text};
 ghost use Rattle.nl_spec_headline.specs.Streams.{medium_seen, sink_seen};
 ghost use Rattle.nl_script.specs.Script.{script};
@@ -31,11 +31,12 @@ pub(crate) fn soak<Rt: Threads + Wait + Sync, K: Sink, M: Nand + Send, G: Gate +
 ) -> Done<M>
     requires count { (0 < count) × (count ≤ 20000) }
     requires workers { (0 < workers) × (workers ≤ 8) }
-    ensures { (lines : List Line) × (script (soak_text seed count workers) ≡ Ok lines)
+    ensures ended { (lines : List Line) × (script (soak_text seed count workers) ≡ Ok lines)
         × RunEnds M.tells lines (Summarises M.tells) (leaves_within M.Nand media result.media)
         (sink_seen K.Sink sink.old) (sink_seen K.Sink sink.new)
         (medium_seen M.Nand media) (medium_seen M.Nand result.media)
         result.order.items result.syncs.items result.status }
+    ensures refused { result.refused ≡ None }
 {
     match drawn_lines(alloc, seed, count, workers) {
         Some(lines) => run_on(rt, alloc, &lines, Told::Summary, sink, media, gate),

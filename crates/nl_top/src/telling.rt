@@ -1,5 +1,5 @@
 // What is told of lines that were run: the lists, the text and the status.
-ghost use Rattle.std.specs.Prelude.{◌≡◌, ◌≤◌, ◌||◌};
+ghost use Rattle.std.specs.Prelude.{◌≡◌, ◌≤◌, ◌||◌, None};
 ghost use Rattle.nl_field.specs.CrashStates.{Rose};
 ghost use Rattle.nl_spec_headline.specs.Status.{DoneStatus, RunFailed};
 ghost use Rattle.nl_spec_headline.specs.Streams.{Prints, sink_seen};
@@ -33,6 +33,7 @@ pub(crate) fn tell<K: Sink, M: Nand>(
     sink: &mut K,
 ) -> Done<M>
     requires tables { AreRoomyFor tables.answers.rows tables.order tables.syncs }
+    ensures refused { result.refused ≡ None }
     ensures media { result.media ≡ ran.media }
     ensures order { result.order.items ≡ order_of_rows tables.answers.rows }
     ensures syncs { result.syncs.items ≡ syncs_of_rows tables.answers.rows }
@@ -62,6 +63,7 @@ pub(crate) fn tell<K: Sink, M: Nand>(
     let failed = any_of(has_failed(&media, before), order.has_fault(), lost, worn);
     Done {
         status: status_of(failed, answer),
+        refused: None,
         media,
         syncs,
         order,

@@ -30,5 +30,6 @@ returns-in-Ok-clause-ended g c =
       ends = forming_by (new_in_store o b c.in-Ok.media n.result.media c.args.store c.into_store.result (λ t. t) ((g.met.B.Store g.world.𝓛 g.world.𝓜 g.world.𝓡 ((λ s x. x), (λ x. x), (λ x. x), λ x. x)).now_left c.args.store)
           (λ t. c.in-Ok.ensures.left t) (λ t. c.into_store.ensures.left t))
           c.requires n.ensures.ended;
+      refused_only = n.ensures.refused;
       carries_out = n.ensures.completes;
     }

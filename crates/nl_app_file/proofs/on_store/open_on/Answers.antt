@@ -33,6 +33,7 @@ returns-in-Ok-clause-ended g c =
           (λ t. c.in-Ok.ensures.left t) c.in-Ok.ensures.clock (sym c.into_store.ensures.clock) (λ t. c.into_store.ensures.left t))
           (stream (s.left c.args.src.now) (s.faults c.args.src.now)) (stream (s.left n.new.src) (s.faults n.new.src))
           (stream (k.taken c.args.sink.now) (k.faults c.args.sink.now)) (stream (k.taken n.new.sink) (k.faults n.new.sink))
-          (medium_seen o c.in-Ok.media) (medium_seen o n.result.media) n.result.order.items n.result.syncs.items n.result.status c.args.words.now n.ensures.ended;
+          (medium_seen o c.in-Ok.media) (medium_seen o n.result.media) n.result.order.items n.result.syncs.items n.result.refused n.result.status c.args.words.now n.ensures.ended;
+      refused_only = n.ensures.refused;
       carries_out = n.ensures.completes;
     }

@@ -13,4 +13,4 @@ each (Ok x) P Q by is = by x is
 each (Err e) P Q by is = tt
 
 pub returns-clause-ended : goal.returns-clause-ended
-returns-clause-ended g c = each c.answer_on-status.result.status _ _ (λ status ends. on_file ghosts refl ends) c.answer_on-status.ensures.ended
+returns-clause-ended g c = each c.answer_on-ending.result.ending _ _ (λ ending ends. on_file ghosts refl ends) c.answer_on-ending.ensures.ended

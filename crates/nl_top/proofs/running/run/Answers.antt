@@ -5,11 +5,11 @@ use Rattle.nl_top.specs.RunEnds.{runs_script, script_refused, source_fault, sour
 use Rattle.nl_top.proofs.Left.{same_leaves}
 use Rattle.nl_top.proofs.running.run.Goals as goal
 
-pub returns-in-Lines : goal.returns-in-Lines
-returns-in-Lines g c = runs_script c.in-Lines.lines c.in-Lines.ensures.script c.run_on.ensures
+pub returns-in-Lines-clause-ended : goal.returns-in-Lines-clause-ended
+returns-in-Lines-clause-ended g c = runs_script c.in-Lines.lines c.in-Lines.ensures.script c.run_on.ensures.ended
 
-pub returns-in-Refused : goal.returns-in-Refused
-returns-in-Refused g c =
+pub returns-in-Refused-clause-ended : goal.returns-in-Refused-clause-ended
+returns-in-Refused-clause-ended g c =
     let k = g.K.Sink in
     let media = c.without_lines.ensures.media in
     let m = g.M.Nand in
@@ -32,8 +32,8 @@ returns-in-Refused g c =
       no_syncs = c.without_lines.ensures.syncs;
     })
 
-pub returns-in-Failed : goal.returns-in-Failed
-returns-in-Failed g c =
+pub returns-in-Failed-clause-ended : goal.returns-in-Failed-clause-ended
+returns-in-Failed-clause-ended g c =
     let m = g.M.Nand in
     source_fault c.ended.ensures.status c.in-Failed.ensures.script (same_leaves m c.args.media c.ended.result.media c.ended.ensures.media)
     (record {
@@ -47,8 +47,8 @@ returns-in-Failed g c =
       no_syncs = c.ended.ensures.syncs;
     })
 
-pub returns-in-Memory : goal.returns-in-Memory
-returns-in-Memory g c =
+pub returns-in-Memory-clause-ended : goal.returns-in-Memory-clause-ended
+returns-in-Memory-clause-ended g c =
     let m = g.M.Nand in
     source_no_memory c.ended-in-Memory.ensures.status (same_leaves m c.args.media c.ended-in-Memory.result.media c.ended-in-Memory.ensures.media)
     (record {

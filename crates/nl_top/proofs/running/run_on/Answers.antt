@@ -10,8 +10,8 @@ use Rattle.nl_top.proofs.Told.{room_for, was_told}
 use Rattle.nl_top.proofs.running.run_on.Goals as goal
 
 -- no memory for the tables
-pub returns-in_default : goal.returns-in_default
-returns-in_default g c =
+pub returns-in_default-clause-ended : goal.returns-in_default-clause-ended
+returns-in_default-clause-ended g c =
     let m = g.M.Nand in
     not_run (codes "memory\n") (no_memory c.ended.ensures.status refl) (same_leaves m c.args.media c.ended.result.media c.ended.ensures.media)
     (record {
@@ -26,8 +26,8 @@ returns-in_default g c =
     })
 
 -- the volume was not opened
-pub returns-in-Err : goal.returns-in-Err
-returns-in-Err g c =
+pub returns-in-Err-clause-ended : goal.returns-in-Err-clause-ended
+returns-in-Err-clause-ended g c =
     let m = g.M.Nand in
     let why = c.refused.ensures.ended c.args.media c.in-Err.ensures.why in
     let left = c.in-Err.ensures.left in
@@ -53,8 +53,8 @@ tell-requires g c =
     }
 
 -- the lines were run, and are told
-pub returns-in-Ok-run_lines : goal.returns-in-Ok-run_lines
-returns-in-Ok-run_lines g c =
+pub returns-in-Ok-run_lines-clause-ended : goal.returns-in-Ok-run_lines-clause-ended
+returns-in-Ok-run_lines-clause-ended g c =
     let m = g.M.Nand in
     let k = g.K.Sink in
     let lines = c.args.lines.now in

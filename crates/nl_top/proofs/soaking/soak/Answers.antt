@@ -6,15 +6,15 @@ use Rattle.nl_top.specs.RunEnds.{not_run}
 use Rattle.nl_top.proofs.Left.{same_leaves}
 use Rattle.nl_top.proofs.soaking.soak.Goals as goal
 
-pub returns-in-Some : goal.returns-in-Some
-returns-in-Some g c =
+pub returns-in-Some-clause-ended : goal.returns-in-Some-clause-ended
+returns-in-Some-clause-ended g c =
     let drawn = c.drawn_lines.ensures in
     let same = subst (λ (o : Option (List Line)). IfSome o (λ d. d ≡ drawn.0)) c.in-Some.is drawn.2 in
-    (c.in-Some.lines, drawn.1 ∙ ap (λ (ls : List Line). Ok ls) (sym same), c.run_on.ensures)
+    (c.in-Some.lines, drawn.1 ∙ ap (λ (ls : List Line). Ok ls) (sym same), c.run_on.ensures.ended)
 
 -- no memory for the script
-pub returns-in-None : goal.returns-in-None
-returns-in-None g c =
+pub returns-in-None-clause-ended : goal.returns-in-None-clause-ended
+returns-in-None-clause-ended g c =
     let m = g.M.Nand in
     let e = c.ended.ensures in
     let drawn = c.drawn_lines.ensures in (
