@@ -1,0 +1,4 @@
+pub mod Contents
+pub mod Renaming
+pub mod Steps
+pub mod Whole

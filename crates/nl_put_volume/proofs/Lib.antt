@@ -1,0 +1,5 @@
+pub mod Asked
+pub mod Back
+pub mod Course
+pub mod Named
+pub mod Phases

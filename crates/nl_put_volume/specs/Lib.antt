@@ -1,0 +1,4 @@
+pub mod Asking
+pub mod Naming
+pub mod Phases
+pub mod Putting
