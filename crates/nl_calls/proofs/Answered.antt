@@ -1,6 +1,7 @@
 -- Answers of parts of a call.
-use Rattle.std.proofs.Common.{◌≡◌, inl, inr, ℕ, ◌+◌, ◌&&◌, Bool, true, false, List, Option, Some, None, refl, sym, subst, arith}
-use Rattle.std.specs.Prelude.{IfSome}
+use Rattle.std.proofs.Common.{◌≡◌, inl, inr, ℕ, ◌+◌, ◌&&◌, Bool, true, false, List, Option, Some, None, refl, sym, subst, ◌∙◌, arith}
+use Rattle.std.specs.Prelude.{◌≤◌, IfSome, is_none}
+use Rattle.std.proofs.lemmas.Bool.{and_parts}
 use Rattle.nl_field.specs.declared.shape.Shape.{Shape}
 use Rattle.nl_tree.specs.Causes.{FaultRose, FaultWithin, fault_in, fault_sum}
 use Rattle.nl_tree.specs.Replay.{Answers, step_marked}
@@ -24,7 +25,7 @@ use Rattle.nl_calls_steps.specs.Calls.{OtherLinesStay, counts_of}
 use Rattle.nl_namespace.proofs.Taking.{takes-none}
 use Rattle.nl_calls_names.specs.Gathering.{graph_on}
 use Rattle.nl_calls_names.specs.Naming.{TakesLeastOn}
-use Rattle.nl_calls.specs.Answering.{AnswersCall, AnswersOn, RunsReclaimPass, MakesEffect, HasEffectOf, Syncs, is_synced}
+use Rattle.nl_calls.specs.Answering.{AnswersCall, AnswersOn, RunsReclaimPass, MakesEffect, HasEffectOf, Syncs, goal_now, is_sync_call, is_synced}
 use Rattle.nl_calls.proofs.Ended.{ends_then}
 
 -- ---- what a call does
@@ -60,16 +61,16 @@ module _ {D : Type 0} (g : Ghosts D) (call : Call) (u v : Core D) where
   fault_effect fault = leaves_effect (Some fault) (λ shape tree. refl)
 
   -- the effect of a call whose reply is no sync's
-  pub plain_effect : (reply : Reply) → is_synced reply ≡ false → MakesEffect g call (fault_in reply) u v → HasEffectOf g call u v reply
-  plain_effect Done is x = x
-  plain_effect (Count n) is x = x
-  plain_effect Content is x = x
-  plain_effect (Names n) is x = x
-  plain_effect (File size pages) is x = x
-  plain_effect (Dir entries) is x = x
-  plain_effect (Synced upto moment) is x = absurd (cc is)
-  plain_effect (No refusal) is x = x
-  plain_effect (Fault fault) is x = x
+  pub plain_effect : (goal : ℕ) (reply : Reply) → is_synced reply ≡ false → MakesEffect g call (fault_in reply) u v → HasEffectOf g goal call u v reply
+  plain_effect goal Done is x = x
+  plain_effect goal (Count n) is x = x
+  plain_effect goal Content is x = x
+  plain_effect goal (Names n) is x = x
+  plain_effect goal (File size pages) is x = x
+  plain_effect goal (Dir entries) is x = x
+  plain_effect goal (Synced upto moment) is x = absurd (cc is)
+  plain_effect goal (No refusal) is x = x
+  plain_effect goal (Fault fault) is x = x
 
 pub and_false : (b : Bool) → (b && false) ≡ false
 and_false true = refl
@@ -98,30 +99,25 @@ module _ {D : Type 0} (g : Ghosts D) (call : Call) (n : ℕ) (u v w : Core D) (g
     takes = x.takes;
   }
 
-  syncs_after : (upto moment : ℕ) → Syncs g upto moment v w → Syncs g upto moment u w
-  syncs_after upto moment x = record {
-    between = x.between;
-    core = x.core;
-    before = n + x.before;
-    goes = goes_then g u v x.between n x.before goes x.goes;
-    most = x.most;
-    committing = x.committing;
-    number = x.number;
-    commits = x.commits;
+  syncs_after : (goal due upto moment : ℕ) → goal ≡ due → Syncs g goal upto moment v w → Syncs g due upto moment u w
+  syncs_after goal due upto moment same x = record {
+    most = n + x.most;
+    goes = goes_then g u v w n x.most goes x.goes;
+    reached = subst (λ k. k ≤ w.committed) same x.reached;
     upto_is = x.upto_is;
     moment_is = x.moment_is;
   }
 
-  effect_of_after : (reply : Reply) → HasEffectOf g call v w reply → HasEffectOf g call u w reply
-  effect_of_after Done x = effect_after None x
-  effect_of_after (Count n) x = effect_after None x
-  effect_of_after Content x = effect_after None x
-  effect_of_after (Names n) x = effect_after None x
-  effect_of_after (File size pages) x = effect_after None x
-  effect_of_after (Dir entries) x = effect_after None x
-  effect_of_after (Synced upto moment) x = syncs_after upto moment x
-  effect_of_after (No refusal) x = effect_after None x
-  effect_of_after (Fault fault) x = effect_after (Some fault) x
+  pub effect_of_after : (goal due : ℕ) (reply : Reply) → (is_synced reply ≡ true → goal ≡ due) → HasEffectOf g goal call v w reply → HasEffectOf g due call u w reply
+  effect_of_after goal due Done same x = effect_after None x
+  effect_of_after goal due (Count n) same x = effect_after None x
+  effect_of_after goal due Content same x = effect_after None x
+  effect_of_after goal due (Names n) same x = effect_after None x
+  effect_of_after goal due (File size pages) same x = effect_after None x
+  effect_of_after goal due (Dir entries) same x = effect_after None x
+  effect_of_after goal due (Synced upto moment) same x = syncs_after goal due upto moment (same refl) x
+  effect_of_after goal due (No refusal) same x = effect_after None x
+  effect_of_after goal due (Fault fault) same x = effect_after (Some fault) x
 
   rose_after : FaultRose (counts_of g v.device) (counts_of g w.device) → FaultRose (counts_of g u.device) (counts_of g w.device)
   rose_after (inl rose) = inl (let low = goes.reads in omega (arith, rose, low))
@@ -133,7 +129,7 @@ module _ {D : Type 0} (g : Ghosts D) (call : Call) (n : ℕ) (u v w : Core D) (g
   within_after Eworn is = is
   within_after (Edamaged wanted found) is = is
 
-  cause_after : (f : Option FaultReply) → IfSome f (FaultWithin g.tells (counts_of g v.device) (counts_of g w.device)) → IfSome f (FaultWithin g.tells (counts_of g u.device) (counts_of g w.device))
+  pub cause_after : (f : Option FaultReply) → IfSome f (FaultWithin g.tells (counts_of g v.device) (counts_of g w.device)) → IfSome f (FaultWithin g.tells (counts_of g u.device) (counts_of g w.device))
   cause_after None is = is
   cause_after (Some f) is = within_after f is
 
@@ -145,9 +141,10 @@ module _ {D : Type 0} (g : Ghosts D) (call : Call) (n : ℕ) (u v w : Core D) (g
   pub cleans_after : (m : Moving D) → RunsReclaimPass g m v w → RunsReclaimPass g m u w
   cleans_after m c = record { between = c.between; most = n + c.most; goes = goes_then g u v c.between n c.most goes c.goes; round = c.round }
 
-  pub answer_after : (worker : ℕ) (reply : Reply) (out : List ℕ) (files : ℕ) → OtherLinesStay worker u.flight v.flight → AnswersCall g worker call v w reply out files → AnswersCall g worker call u w reply out files
-  answer_after worker reply out files stay x = record {
-    effect = effect_of_after reply x.effect;
+  -- a sync has the same goal
+  pub answer_after : (worker : ℕ) (reply : Reply) (out : List ℕ) (files : ℕ) → OtherLinesStay worker u.flight v.flight → (is_sync_call call ≡ true → goal_now v worker ≡ goal_now u worker) → AnswersCall g worker call v w reply out files → AnswersCall g worker call u w reply out files
+  answer_after worker reply out files stay same x = record {
+    effect = effect_of_after (goal_now v worker) (goal_now u worker) reply (λ is. same (and_parts (is_sync_call call) (is_none (fault_in reply)) (sym x.synced ∙ is)).0) x.effect;
     answers = answers_after reply out x.answers;
     cause = cause_after (fault_in reply) x.cause;
     synced = x.synced;

@@ -4,5 +4,6 @@ pub mod Ended
 pub mod Leaving
 pub mod OneTree
 pub mod Steps
+mod Synced
 pub mod Tried
 pub mod Uncommitted

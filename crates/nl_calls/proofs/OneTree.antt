@@ -26,7 +26,7 @@ module _ {D : Type 0} (g : Ghosts D) (v : Core D) (core : IsCore g v) (first sec
   -- each page of a file is live, and shown
   shown : (h : Held) → members.Has (held_in (g.shape v.device) (running_of g v)) h → bytes_for first h.pointer.stamp ≡ bytes_for second h.pointer.stamp
   shown h has =
-      let l = ((held_lead_once g v.device v.journal v.meta (carried v.flight) v.freeing.items core.held).leads (h.tag, h.pointer) (tagged (held_in (g.shape v.device) (running_of g v)) h has)).leads in
+      let l = ((held_lead_once g v.device v.journal v.meta (carried v.flight) v.freeing.items _ core.held).leads (h.tag, h.pointer) (tagged (held_in (g.shape v.device) (running_of g v)) h has)).leads in
       let one = a.shows (led (names_of g v) h.pointer.name) l.0 l.1 in
       let two = b.shows (led (names_of g v) h.pointer.name) l.0 l.1 in
       ap (λ (o : Option PageOfStamp). unwrap_or (option_map (λ p. p.bytes) o) []) (ap first (sym l.2.1) ∙ (one ∙ (sym two ∙ ap second l.2.1)))

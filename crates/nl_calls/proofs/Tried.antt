@@ -1,6 +1,7 @@
 -- Answers of calls that leave the tree, of such as change names, and of such as met a fault.
-use Rattle.std.proofs.Common.{◌≡◌, ℕ, ◌&&◌, true, false, List, [], Option, Some, None, refl, sym, ap, subst, ◌∙◌}
+use Rattle.std.proofs.Common.{◌≡◌, ℕ, ◌≤◌, ◌&&◌, true, false, List, [], Option, Some, None, refl, sym, ap, subst, ◌∙◌}
 use Rattle.std.specs.Prelude.{IfSome, is_none}
+use Rattle.std.proofs.lemmas.Bool.{false≢true}
 use Rattle.nl_field.specs.declared.shape.Shape.{Shape}
 use Rattle.nl_tree.specs.Causes.{FaultRose, FaultWithin, fault_in, fault_sum}
 use Rattle.nl_tree.specs.Replay.{Answers, step_marked}
@@ -17,7 +18,6 @@ use Rattle.nl_iface.specs.declared.counts.Counts.{Ghosts}
 use Rattle.nl_meta.specs.Consistent.{PageOfStamp}
 use Rattle.nl_namespace.specs.Calls.{IsOfNames}
 use Rattle.nl_spec_commits.specs.Trees.{RepresentsTree}
-use Rattle.nl_core.specs.Calls.{CommitsAll}
 use Rattle.nl_core.specs.Core.{IsCore, running_of}
 use Rattle.nl_core.specs.Goes.{PreservesVolume}
 use Rattle.nl_core.specs.Laws.{PagesStayAsMany}
@@ -31,7 +31,7 @@ use Rattle.nl_calls_read.specs.Looking.{IsPlainReply, OnlyLooks}
 use Rattle.nl_calls_names.specs.Naming.{AnswersAs, TakesLeastOn}
 use Rattle.nl_calls_names.specs.declared.answer.Naming.TheVariants as naming
 use Rattle.nl_calls_bytes.specs.Ranges.{IsWriting}
-use Rattle.nl_calls.specs.Answering.{AnswersCall, AnswersOn, EndsLine, MakesEffect, is_sync_call, is_synced, pages_of_files}
+use Rattle.nl_calls.specs.Answering.{AnswersCall, AnswersOn, EndsLine, MakesEffect, goal_now, is_sync_call, is_synced, pages_of_files}
 use Rattle.nl_calls.proofs.Answered.{and_false, failed_cause, fault_effect, leaves_effect, plain_effect, steps_none, takes_nothing}
 use Rattle.nl_calls.proofs.Counted.{goes_counted}
 use Rattle.nl_calls.proofs.OneTree.{one_tree}
@@ -78,7 +78,7 @@ module _ {D : Type 0} (g : Ghosts D) (worker : ℕ) (call : Call) (n : ℕ) (u v
   looked looks reply out plain answers =
       let k = only_looks call looks in
       record {
-        effect = plain_effect g call u v reply plain.1 (leaves_effect g call u v (fault_in reply) (λ shape tree. looking_leaves shape tree call (fault_in reply) k.0) n core goes);
+        effect = plain_effect g call u v (goal_now u worker) reply plain.1 (leaves_effect g call u v (fault_in reply) (λ shape tree. looking_leaves shape tree call (fault_in reply) k.0) n core goes);
         answers = λ tells page_of_stamp tree runs. subst (λ (f : Option FaultReply). Answers (step_marked (g.shape u.device) tree (call, f)) reply out) (sym plain.0) (answers tells page_of_stamp tree runs);
         cause = subst (λ (f : Option FaultReply). IfSome f (FaultWithin g.tells (counts_of g u.device) (counts_of g v.device))) (sym plain.0) tt;
         synced = plain.1 ∙ sym (ap (λ b. b && is_none (fault_in reply)) k.1);
@@ -102,7 +102,7 @@ module _ {D : Type 0} (g : Ghosts D) (worker : ℕ) (call : Call) (n : ℕ) (u v
 
 -- ---- a call that changes names
 
-of_names : (call : Call) → IsOfNames call → (is_sync_call call ≡ false) × (call ≡ Clean → ⊥)
+pub of_names : (call : Call) → IsOfNames call → (is_sync_call call ≡ false) × (call ≡ Clean → ⊥)
 of_names (Mkdir path) is = (refl, λ e. cc e)
 of_names (Rmdir path) is = (refl, λ e. cc e)
 of_names (Create path) is = (refl, λ e. cc e)
@@ -172,11 +172,11 @@ module _ {D : Type 0} (g : Ghosts D) (worker : ℕ) (call : Call) (u v : Core D)
 
 -- ---- a sync
 
-module _ {D : Type 0} (g : Ghosts D) (worker : ℕ) (n number : ℕ) (u v : Core D) (files : ℕ) (before : IsCore g u) (goes : PreservesVolume g n u v) (commits : CommitsAll g u v number) (law : PagesStayAsMany) (are : files ≡ pages_of_files g u)
+module _ {D : Type 0} (g : Ghosts D) (worker : ℕ) (n : ℕ) (u v : Core D) (files : ℕ) (goes : PreservesVolume g n u v) (reached : goal_now u worker ≤ v.committed) (law : PagesStayAsMany) (are : files ≡ pages_of_files g u)
     (line : EndsLine worker u.flight v.flight) where
   pub synced : AnswersCall g worker Sync u v (Synced v.committed v.moment) [] files
   synced = record {
-    effect = record { between = u; core = before; before = 0; goes = goes_none g u before; most = n; committing = goes; number = number; commits = commits; upto_is = refl; moment_is = refl };
+    effect = record { most = n; goes = goes; reached = reached; upto_is = refl; moment_is = refl };
     answers = λ tells page_of_stamp tree runs.
         subst (λ (x : Outcome). Answers x (Synced v.committed v.moment) []) (sym (sync_step (g.shape u.device) tree (room (g.shape u.device) (running_of g u) page_of_stamp tree runs.runs)))
         ((v.committed, v.moment, refl), refl);
@@ -191,7 +191,7 @@ module _ {D : Type 0} (g : Ghosts D) (worker : ℕ) (n number : ℕ) (u v : Core
 module _ {D : Type 0} (g : Ghosts D) (worker : ℕ) (call : Call) (u v : Core D) (files : ℕ) (unsynced : is_sync_call call ≡ false) (uncleaned : call ≡ Clean → ⊥) (are : files ≡ pages_of_files g v) (line : EndsLine worker u.flight v.flight) where
   pub written_done : (reply : Reply) (out : List ℕ) → fault_in reply ≡ None → is_synced reply ≡ false → MakesEffect g call None u v → AnswersOn g call u reply out → AnswersCall g worker call u v reply out files
   written_done reply out none plain x answers = record {
-    effect = plain_effect g call u v reply plain (subst (λ (f : Option FaultReply). MakesEffect g call f u v) (sym none) x);
+    effect = plain_effect g call u v (goal_now u worker) reply plain (subst (λ (f : Option FaultReply). MakesEffect g call f u v) (sym none) x);
     answers = answers;
     cause = subst (λ (f : Option FaultReply). IfSome f (FaultWithin g.tells (counts_of g u.device) (counts_of g v.device))) (sym none) tt;
     synced = plain ∙ sym (ap (λ b. b && is_none (fault_in reply)) unsynced);
@@ -249,3 +249,19 @@ not_writing (Stat path) w f is = is
 not_writing (ListCall path) w f is = is
 not_writing Sync w f is = is
 not_writing Clean w f is = is
+
+-- the one call that is a sync
+pub sync_is : (call : Call) → is_sync_call call ≡ true → call ≡ Sync
+sync_is (Mkdir path) is = absurd (false≢true is)
+sync_is (Rmdir path) is = absurd (false≢true is)
+sync_is (Create path) is = absurd (false≢true is)
+sync_is (Unlink path) is = absurd (false≢true is)
+sync_is (Rename from to) is = absurd (false≢true is)
+sync_is (Write path from bytes) is = absurd (false≢true is)
+sync_is (Fill path from len byte) is = absurd (false≢true is)
+sync_is (Read path from len) is = absurd (false≢true is)
+sync_is (Truncate path size) is = absurd (false≢true is)
+sync_is (Stat path) is = absurd (false≢true is)
+sync_is (ListCall path) is = absurd (false≢true is)
+sync_is Sync is = refl
+sync_is Clean is = absurd (false≢true is)

@@ -1,5 +1,5 @@
 -- Calls that commit nothing, and those that leave the medium.
-use Rattle.std.proofs.Common.{◌≡◌, ℕ, ◌+◌, ◌≤◌, Bool, true, false, List, length, refl, sym, ap, ◌∙◌, arith}
+use Rattle.std.proofs.Common.{◌≡◌, ℕ, ◌+◌, ◌≤◌, true, false, List, length, refl, sym, ap, ◌∙◌}
 use Rattle.std.proofs.lemmas.Bool.{false≢true}
 use Rattle.nl_tree.specs.Causes.{is_changing}
 use Rattle.nl_tree.specs.declared.call.Call.{Call}

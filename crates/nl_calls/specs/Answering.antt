@@ -1,5 +1,5 @@
 -- What a file call does to a core, and what it answers.
-use Rattle.std.specs.Prelude.{◌≡◌, ℕ, ◌^◌, ◌<◌, ◌&&◌, Bool, true, false, IsTrue, IfSome, List, length, is_none, Option}
+use Rattle.std.specs.Prelude.{◌≡◌, ℕ, ◌^◌, ◌<◌, ◌≤◌, ◌&&◌, Bool, true, false, IsTrue, IfSome, List, length, is_none, Option}
 use Rattle.nl_tree.specs.Causes.{FaultWithin, fault_in, is_changing}
 use Rattle.nl_tree.specs.Replay.{Answers, step_marked}
 use Rattle.nl_tree.specs.Tree.{Tree}
@@ -14,11 +14,11 @@ use Rattle.nl_iface.specs.declared.moving_pages.MovingPages.{Ghosts as Moving}
 use Rattle.nl_meta.specs.Consistent.{PageOfStamp}
 use Rattle.nl_journal_commit.specs.Holding.{running_holders}
 use Rattle.nl_namespace.specs.Calls.{IsOfNames}
-use Rattle.nl_core.specs.Calls.{CommitsAll}
 use Rattle.nl_core.specs.Core.{IsCore}
 use Rattle.nl_core.specs.Goes.{PreservesVolume}
 use Rattle.nl_core.specs.Rounds.{ReclaimPassIsDone}
 use Rattle.nl_core.specs.Trees.{CoreRepresentsTree}
+use Rattle.nl_core.specs.Units.{goal_or}
 use Rattle.nl_core.specs.declared.state.Core.{Core}
 use Rattle.nl_calls_steps.specs.Steps.{Steps}
 use Rattle.nl_calls_steps.specs.Calls.{MakesTree, OtherLinesStay, counts_of}
@@ -48,16 +48,12 @@ pub record MakesEffect {D : Type 0} (g : Ghosts D) (call : Call) (fault : Option
   pub makes : MakesTree g between new (call, fault)
   pub takes : IsOfNames call → TakesLeastOn g between new
 
--- The core goes on, and all calls so far are committed: so many, at this moment.
-pub record Syncs {D : Type 0} (g : Ghosts D) (upto moment : ℕ) (old new : Core D) : Type 0 where
-  pub between : Core D
-  pub core : IsCore g between
-  pub before : ℕ
-  pub goes : PreservesVolume g before old between
+-- The core goes on, and at least as many calls are committed as the goal asks for. How many are committed is told, whoever made them so, and
+-- the moment of that commit page, which may be an earlier one than the begin of the call.
+pub record Syncs {D : Type 0} (g : Ghosts D) (goal upto moment : ℕ) (old new : Core D) : Type 0 where
   pub most : ℕ
-  pub committing : PreservesVolume g most between new
-  pub number : ℕ
-  pub commits : CommitsAll g between new number
+  pub goes : PreservesVolume g most old new
+  pub reached : goal ≤ new.committed
   pub upto_is : upto ≡ new.committed
   pub moment_is : moment ≡ new.moment
 
@@ -68,9 +64,14 @@ pub record RunsReclaimPass {D : Type 0} (g : Ghosts D) (m : Moving D) (old new :
   pub goes : PreservesVolume g most old between
   pub round : ReclaimPassIsDone g m between new
 
-abbrev pub HasEffectOf : {D : Type 0} → Ghosts D → Call → Core D → Core D → Reply → Type 0
-HasEffectOf g call old new (Synced upto moment) = Syncs g upto moment old new
-HasEffectOf g call old new reply = MakesEffect g call (fault_in reply) old new
+-- what a call does whose reply is this one, with this goal where it is a sync
+abbrev pub HasEffectOf : {D : Type 0} → Ghosts D → ℕ → Call → Core D → Core D → Reply → Type 0
+HasEffectOf g goal call old new (Synced upto moment) = Syncs g goal upto moment old new
+HasEffectOf g goal call old new reply = MakesEffect g call (fault_in reply) old new
+
+-- the goal of a worker's line in flight as a sync, all calls so far where none is fixed
+abbrev pub goal_now : {D : Type 0} → Core D → ℕ → ℕ
+goal_now v worker = goal_or (of_worker v.flight worker).goal v.count
 
 -- ---- what it answers
 
@@ -92,7 +93,7 @@ AnswersOn g call old reply out =
 -- fault has the numbers of one, and a call for cleaning that is done did a round. The worker has no line afterwards, and files have so many
 -- pages.
 pub record AnswersCall {D : Type 0} (g : Ghosts D) (worker : ℕ) (call : Call) (old new : Core D) (reply : Reply) (out : List ℕ) (files : ℕ) : Type 0 where
-  pub effect : HasEffectOf g call old new reply
+  pub effect : HasEffectOf g (goal_now old worker) call old new reply
   pub answers : AnswersOn g call old reply out
   pub cause : IfSome (fault_in reply) (FaultWithin g.tells (counts_of g old.device) (counts_of g new.device))
   pub synced : is_synced reply ≡ (is_sync_call call && is_none (fault_in reply))
@@ -100,6 +101,11 @@ pub record AnswersCall {D : Type 0} (g : Ghosts D) (worker : ℕ) (call : Call) 
   pub files_are : files ≡ pages_of_files g new
 
 -- ---- what it asks
+
+-- A sync whose goal is reached: so many calls are committed.
+pub record IsReachedSync {D : Type 0} (call : Call) (goal : ℕ) (v : Core D) : Type 0 where
+  pub sync : call ≡ Sync
+  pub reached : goal ≤ v.committed
 
 -- A call that changes something is tried only where the volume can be written to and its write sequence numbers are not used up.
 pub record MayTry {D : Type 0} (g : Ghosts D) (call : Call) (v : Core D) : Type 0 where

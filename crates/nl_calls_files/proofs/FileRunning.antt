@@ -203,7 +203,7 @@ cut_has_pages shape page_of_stamp n size partial was is before after s t r file 
 -- ---- the pointers of files lead
 
 pub held_lead_once : {D : Type 0} (g : Ghosts D) → HeldLeadOnce g
-held_lead_once g s p pages flight freeing h = record {
+held_lead_once g s p pages flight freeing leaving h = record {
   leads = λ x has. subst (λ (m : Names). IsRef m always (wants_tagged x) x.1.name) h.is_of.runs.names
       (h.holds.held.running x (subst (λ (xs : List (Tag × Pointer)). Has xs x) (sym h.is_of.runs.running) has));
   once = λ stamp.

@@ -129,7 +129,7 @@ pub files_stand : {D : Type 0} (g : Ghosts D) → FilesAreAtHand g
 files_stand g s pages n rec runs is = stands g s pages n rec runs is
 
 pub files_lead : {D : Type 0} (g : Ghosts D) → FilesLead g
-files_lead g s p pages flight freeing n rec runs h is i low some =
+files_lead g s p pages flight freeing n rec leaving runs h is i low some =
     subst (λ (m : Names). IsRef m always (wants_tagged (tag_of n rec i, pointer_at (running_on g s pages) rec i)) (pointer_at (running_on g s pages) rec i).name) h.is_of.runs.names
     (h.holds.held.running (tag_of n rec i, pointer_at (running_on g s pages) rec i)
     (subst (λ (xs : List (Tag × Pointer)). Has xs (tag_of n rec i, pointer_at (running_on g s pages) rec i)) (sym h.is_of.runs.running)

@@ -79,7 +79,7 @@ stamp_some p is = by (is_none_pointer p) refl
 -- ---- a page in flight is installed
 
 pub installing_holds : {D : Type 0} (g : Ghosts D) → InstallingHolds g
-installing_holds g s p flight later freeing n index size to was is old new written f t volume j h on lost =
+installing_holds g s p flight later freeing n index size to was is old new written f t leaving volume j h on lost =
     let r = installed_runs g s n index to size was is old new written f t volume j.runs on in
     let put : InodeRec = record is { size = size } in
     let before = pointer_at (running_on g s old) was index in
@@ -93,14 +93,14 @@ installing_holds g s p flight later freeing n index size to was is old new writt
     let fewer = lost.size in
     let added = length-append freeing (as_list before) in
     record {
-      held = installing_keeps_held g s s p old written flight later freeing (tag_of n was index) before to volume j h (reads-none g s) r.pages.same_frozen one some lost;
+      held = installing_keeps_held g s s p old written flight later freeing (tag_of n was index) before to _ volume j h (reads-none g s) r.pages.same_frozen one some lost;
       as_many = omega (arith, size_, was_size, to_size, fewer, added);
     }
 
 -- ---- a file is cut
 
 module _ {D : Type 0} (g : Ghosts D) (s : D) (p : Progress) (flight later : List (Tag × Pointer)) (freeing : List Pointer) (n size : ℕ) (partial : Option Pointer) (was is : InodeRec) (old new written : Pages) (f t : Spaces)
-    (volume : IsVolumeShape (g.shape s)) (j : IsJournaled g s p old) (h : IsHeldVolume g s p old flight freeing) (on : CutsOn g s n size partial was is old new written f t) where
+    (volume : IsVolumeShape (g.shape s)) (j : IsJournaled g s p old) {leaving : ℕ} (h : IsHeldVolume g s p old flight freeing leaving) (on : CutsOn g s n size partial was is old new written f t) where
   abbrev shape : Shape
   shape = g.shape s
 
@@ -150,7 +150,7 @@ module _ {D : Type 0} (g : Ghosts D) (s : D) (p : Progress) (flight later : List
   tail_size index c from = sym (length-map (tail from) tagged) ∙ ap length (cutting.plain_behind shape before after n index was is c from ∙ behind_same from)
 
   -- no page comes
-  none_comes : partial ≡ None → later ≡ flight → KeepsVolumeHeld g s p old written flight later freeing (pointers_from before was (div_ceil size 4096) ++ [])
+  none_comes : partial ≡ None → later ≡ flight → KeepsVolumeHeld g s p old written flight later freeing leaving (pointers_from before was (div_ceil size 4096) ++ [])
   none_comes e same =
       let index = div_ceil size 4096 in
       let c = cuts_at index (kept_below e) (λ i far. cut.gone i (omega (arith, far))) in
@@ -164,16 +164,16 @@ module _ {D : Type 0} (g : Ghosts D) (s : D) (p : Progress) (flight later : List
       let size_ = tail_size index c index in
       let added = length-append freeing gone in
       let as_many_flight = ap length same in
-      subst (λ (f : List Pointer). KeepsVolumeHeld g s p old written flight later freeing f) (sym (append-nil gone)) (record {
-        held = subst (λ (f : List (Tag × Pointer)). IsHeldVolume g s p written f (freeing ++ gone)) (sym same)
-            (subst (λ (f : List Pointer). IsHeldVolume g s p written flight (freeing ++ f)) (behind_same index)
-            (truncating_keeps_held g s s p old written flight freeing n index was is volume j h (reads-none g s) frozen c none));
+      subst (λ (f : List Pointer). KeepsVolumeHeld g s p old written flight later freeing leaving f) (sym (append-nil gone)) (record {
+        held = subst (λ (f : List (Tag × Pointer)). IsHeldVolume g s p written f (freeing ++ gone) leaving) (sym same)
+            (subst (λ (f : List Pointer). IsHeldVolume g s p written flight (freeing ++ f) leaving) (behind_same index)
+            (truncating_keeps_held g s s p old written flight freeing n index was is _ volume j h (reads-none g s) frozen c none));
         as_many = omega (arith, a, b, d, e2, size_, added, as_many_flight);
       })
 
   -- one comes
   one_comes : (q : Pointer) → partial ≡ Some q → size % 4096 ≢ 0 → is_none_pointer q ≡ false → pointer_at after is (size / 4096) ≡ q → ListLoses tagged (tag_of n was (size / 4096), q) flight later
-      → KeepsVolumeHeld g s p old written flight later freeing (pointers_from before was (div_ceil size 4096) ++ as_list (pointer_at before was (size / 4096)))
+      → KeepsVolumeHeld g s p old written flight later freeing leaving (pointers_from before was (div_ceil size 4096) ++ as_list (pointer_at before was (size / 4096)))
   one_comes q e within some now lost =
       let index = size / 4096 in
       let is_next : div_ceil size 4096 ≡ index + 1 = omega (arith, within) in
@@ -191,21 +191,21 @@ module _ {D : Type 0} (g : Ghosts D) (s : D) (p : Progress) (flight later : List
       let added = length-append freeing (pointers_from before was (index + 1) ++ as_list was_at) in
       let gone_size = length-append (pointers_from before was (index + 1)) (as_list was_at) in
       let fewer = lost.size in
-      subst (λ (from : ℕ). KeepsVolumeHeld g s p old written flight later freeing (pointers_from before was from ++ as_list was_at)) (sym is_next) (record {
-        held = subst (λ (f : List Pointer). IsHeldVolume g s p written later f) (append_assoc freeing (pointers_behind before was (index + 1)) (as_list was_at) ∙ ap (λ (l : List Pointer). freeing ++ (l ++ as_list was_at)) (behind_same (index + 1)))
-            (parting_keeps_held g s s p old written flight later freeing n index was is volume j h (reads-none g s) frozen c is_some_now
+      subst (λ (from : ℕ). KeepsVolumeHeld g s p old written flight later freeing leaving (pointers_from before was from ++ as_list was_at)) (sym is_next) (record {
+        held = subst (λ (f : List Pointer). IsHeldVolume g s p written later f leaving) (append_assoc freeing (pointers_behind before was (index + 1)) (as_list was_at) ∙ ap (λ (l : List Pointer). freeing ++ (l ++ as_list was_at)) (behind_same (index + 1)))
+            (parting_keeps_held g s s p old written flight later freeing n index was is _ volume j h (reads-none g s) frozen c is_some_now
             (subst (λ (x : Pointer). ListLoses tagged (tag_of n was index, x) flight later) (sym now) lost));
         as_many = omega (arith, losing, gaining, parts, one, at_size, rest_size, added, gone_size, fewer);
       })
 
-  pub cut_holds : IfSome partial (λ to. (size % 4096 ≢ 0) × (is_none_pointer to ≡ false)) → LosesGiven (tag_of n was (size / 4096)) partial flight later → KeepsVolumeHeld g s p old written flight later freeing (cut_off before was size partial)
+  pub cut_holds : IfSome partial (λ to. (size % 4096 ≢ 0) × (is_none_pointer to ≡ false)) → LosesGiven (tag_of n was (size / 4096)) partial flight later → KeepsVolumeHeld g s p old written flight later freeing leaving (cut_off before was size partial)
   cut_holds right lost = by partial refl right cut.replaced lost
     where
       by : (o : Option Pointer) → partial ≡ o → IfSome o (λ to. (size % 4096 ≢ 0) × (is_none_pointer to ≡ false)) → IfSome o (λ to. pointer_at after is (size / 4096) ≡ to) → LosesGiven (tag_of n was (size / 4096)) o flight later
-          → KeepsVolumeHeld g s p old written flight later freeing (cut_off before was size o)
+          → KeepsVolumeHeld g s p old written flight later freeing leaving (cut_off before was size o)
       by None e right now lost = none_comes e lost
       by (Some q) e right now lost = one_comes q e right.0 right.1 now lost
 
 pub cutting_holds : {D : Type 0} (g : Ghosts D) → CuttingHolds g
-cutting_holds g s p flight later freeing n size partial was is old new written f t volume j h on right lost =
+cutting_holds g s p flight later freeing n size partial was is old new written f t leaving volume j h on right lost =
     cut_holds g s p flight later freeing n size partial was is old new written f t volume j h on right lost

@@ -80,5 +80,5 @@ CutHasPages =
 -- Where each live page is held once, the pointers of all files lead once.
 abbrev pub HeldLeadOnce : {D : Type 0} → Ghosts D → Type 0
 HeldLeadOnce {D} g =
-    (s : D) (p : Progress) (pages : Pages) (flight : List (Tag × Pointer)) (freeing : List Pointer)
-    → IsHeldVolume g s p pages flight freeing → LeadOnce (g.names s) (running_holders g s pages)
+    (s : D) (p : Progress) (pages : Pages) (flight : List (Tag × Pointer)) (freeing : List Pointer) (leaving : ℕ)
+    → IsHeldVolume g s p pages flight freeing leaving → LeadOnce (g.names s) (running_holders g s pages)

@@ -30,8 +30,8 @@ FilesAreAtHand {D} g = (s : D) (pages : Pages) (n : ℕ) (rec : InodeRec) → Ru
 -- The pointers of a file lead, where each live page is held.
 abbrev pub FilesLead : {D : Type 0} → Ghosts D → Type 0
 FilesLead {D} g =
-    (s : D) (p : Progress) (pages : Pages) (flight : List (Tag × Pointer)) (freeing : List Pointer) (n : ℕ) (rec : InodeRec)
-    → RunningIsRight g s pages → IsHeldVolume g s p pages flight freeing
+    (s : D) (p : Progress) (pages : Pages) (flight : List (Tag × Pointer)) (freeing : List Pointer) (n : ℕ) (rec : InodeRec) (leaving : ℕ)
+    → RunningIsRight g s pages → IsHeldVolume g s p pages flight freeing leaving
     → IsFileOf g s pages n rec → PointersLead (g.names s) n rec (running_on g s pages)
 
 -- A call that only reads the file leaves the volume as it was.

@@ -25,8 +25,9 @@ use Rattle.nl_spec_commits.specs.Held.{IsHeldVolume}
 
 -- The volume is held over the same device, with these pages in memory: those in flight are these, and these await their free behind the
 -- others. As many pages are held as before.
-pub record KeepsVolumeHeld {D : Type 0} (g : Ghosts D) (s : D) (p : Progress) (old now : Pages) (flight later : List (Tag × Pointer)) (freeing gone : List Pointer) : Type 0 where
-  pub held : IsHeldVolume g s p now later (freeing ++ gone)
+pub record KeepsVolumeHeld {D : Type 0} (g : Ghosts D) (s : D) (p : Progress) (old now : Pages) (flight later : List (Tag × Pointer)) (freeing : List Pointer) (leaving : ℕ)
+    (gone : List Pointer) : Type 0 where
+  pub held : IsHeldVolume g s p now later (freeing ++ gone) leaving
   pub as_many : length (running_holders g s now) + length later + length (freeing ++ gone)
       ≡ length (running_holders g s old) + length flight + length freeing
 
@@ -34,11 +35,11 @@ pub record KeepsVolumeHeld {D : Type 0} (g : Ghosts D) (s : D) (p : Progress) (o
 abbrev pub InstallingHolds : {D : Type 0} → Ghosts D → Type 0
 InstallingHolds {D} g =
     (s : D) (p : Progress) (flight later : List (Tag × Pointer)) (freeing : List Pointer) (n index size : ℕ) (to : Pointer)
-    (was is : InodeRec) (old new written : Pages) (f t : Spaces)
-    → IsVolumeShape (g.shape s) → IsJournaled g s p old → IsHeldVolume g s p old flight freeing
+    (was is : InodeRec) (old new written : Pages) (f t : Spaces) (leaving : ℕ)
+    → IsVolumeShape (g.shape s) → IsJournaled g s p old → IsHeldVolume g s p old flight freeing leaving
     → InstallsOn g s n index to size was is old new written f t
     → ListLoses tagged (tag_of n was index, to) flight later
-    → KeepsVolumeHeld g s p old written flight later freeing (as_list (pointer_at (running_on g s old) was index))
+    → KeepsVolumeHeld g s p old written flight later freeing leaving (as_list (pointer_at (running_on g s old) was index))
 
 -- what a cut takes from a file: the pointers wholly behind the size, and that of the index in which the file ends where another one comes
 abbrev pub cut_off : VirtualMap → InodeRec → ℕ → Option Pointer → List Pointer
@@ -54,8 +55,8 @@ LosesGiven tag (Some to) flight later = ListLoses tagged (tag, to) flight later
 abbrev pub CuttingHolds : {D : Type 0} → Ghosts D → Type 0
 CuttingHolds {D} g =
     (s : D) (p : Progress) (flight later : List (Tag × Pointer)) (freeing : List Pointer) (n size : ℕ) (partial : Option Pointer)
-    (was is : InodeRec) (old new written : Pages) (f t : Spaces)
-    → IsVolumeShape (g.shape s) → IsJournaled g s p old → IsHeldVolume g s p old flight freeing
+    (was is : InodeRec) (old new written : Pages) (f t : Spaces) (leaving : ℕ)
+    → IsVolumeShape (g.shape s) → IsJournaled g s p old → IsHeldVolume g s p old flight freeing leaving
     → CutsOn g s n size partial was is old new written f t
     → IfSome partial (λ to. (size % 4096 ≢ 0) × (is_none_pointer to ≡ false)) → LosesGiven (tag_of n was (size / 4096)) partial flight later
-    → KeepsVolumeHeld g s p old written flight later freeing (cut_off (running_on g s old) was size partial)
+    → KeepsVolumeHeld g s p old written flight later freeing leaving (cut_off (running_on g s old) was size partial)

@@ -39,7 +39,7 @@ module _ {D : Type 0} (g : Ghosts D) (v : Core D) (f : PointerItems) (items : f.
     held = record {
       runs = core.journaled.runs;
       free = record { count_nodes = core.free.count_nodes; count_pool = core.free.count_pool; nodes = core.free.nodes; pool = core.free.pool };
-      held = subst (λ (xs : List Pointer). IsHeldVolume g v.device v.journal v.meta (carried v.flight) xs) (sym items) core.held;
+      held = subst (λ (xs : List Pointer). IsHeldVolume g v.device v.journal v.meta (carried v.flight) xs v.leaving) (sym items) core.held;
       as_many = let n = ap length items in omega (arith, n);
       few = core.space.few;
       flight = core.flight;
@@ -70,8 +70,8 @@ module _ {D : Type 0} (g : Ghosts D) (v : Core D) (d : D) (now : Pages) (after :
     renamed_held = record {
       runs = e.runs;
       free = record { count_nodes = e.fits.count_nodes; count_pool = e.fits.count_pool; nodes = e.fits.nodes; pool = e.fits.pool };
-      held = subst (λ (xs : List Pointer). IsHeldVolume g d v.journal now (carried v.flight) xs) (sym items)
-          (held_on g v.device v.meta v.nodes d now after call gone e v.journal (carried v.flight) v.freeing.items volume core.journaled core.held);
+      held = subst (λ (xs : List Pointer). IsHeldVolume g d v.journal now (carried v.flight) xs v.leaving) (sym items)
+          (held_on g v.device v.meta v.nodes d now after call gone e v.journal (carried v.flight) v.freeing.items v.leaving volume core.journaled core.held);
       as_many =
           let all = as_many g v.device v.meta v.nodes d now after call gone e in
           let n = ap length items ∙ length-append v.freeing.items (pointers_of_node (graph_on g v) gone) in

@@ -205,10 +205,10 @@ module _ {D : Type 0} (g : Ghosts D) (s : D) (pages : Pages) (free : Spaces) (vo
 -- ---- who holds live pages
 
 module _ {D : Type 0} (g : Ghosts D) (s : D) (pages : Pages) (free : Spaces) (t : D) (now : Pages) (after : Spaces) (call : Call) (gone : Option ℕ) (e : Ended g s pages free t now after call gone) where
-  pub held_on : (p : Progress) (flight : List (Tag × Pointer)) (freeing : List Pointer) → IsVolumeShape (g.shape s) → IsJournaled g s p pages → IsHeldVolume g s p pages flight freeing
-      → IsHeldVolume g t p now flight (freeing ++ pointers_of_node (graph_of (g.shape s) (running_on g s pages)) gone)
-  held_on p flight freeing volume j h = subst (λ (xs : List Pointer). IsHeldVolume g t p now flight (freeing ++ xs)) e.is_given
-      (cutting_keeps_held g s t p pages now flight flight e.given [] freeing volume j h e.reads e.kept.same_frozen e.replaces refl)
+  pub held_on : (p : Progress) (flight : List (Tag × Pointer)) (freeing : List Pointer) (leaving : ℕ) → IsVolumeShape (g.shape s) → IsJournaled g s p pages → IsHeldVolume g s p pages flight freeing leaving
+      → IsHeldVolume g t p now flight (freeing ++ pointers_of_node (graph_of (g.shape s) (running_on g s pages)) gone) leaving
+  held_on p flight freeing leaving volume j h = subst (λ (xs : List Pointer). IsHeldVolume g t p now flight (freeing ++ xs) leaving) e.is_given
+      (cutting_keeps_held g s t p pages now flight flight e.given [] freeing _ volume j h e.reads e.kept.same_frozen e.replaces refl)
 
   -- the pages that are gone are as many as are held no longer
   pub as_many : length (running_holders g t now) + length (pointers_of_node (graph_of (g.shape s) (running_on g s pages)) gone) ≡ length (running_holders g s pages)

@@ -84,4 +84,4 @@ module _ {D : Type 0} (g : Ghosts D) (u v : Core D) (volume : IsVolumeShape (g.s
       (λ count are. read-file (g.shape u.device) (running_of g u) page_of_stamp tree runs.runs path from len (held_content page_of_stamp (running_of g u) rec) text at.0 at.1 count
       (λ k below. are k (omega (arith, below, count)) ∙ ap (λ (page : ℕ → List ℕ). byte_at page (from + k)) (same-page g u v on tells rec)
       ∙ byte-same g u.device page_of_stamp (running_of g u) n rec (stands g u.device u.meta n rec core.journaled.runs is).file
-      (files_lead g u.device u.journal u.meta (carried u.flight) u.freeing.items n rec core.journaled.runs core.held is) runs.shows (from + k) (omega (arith, below))))
+      (files_lead g u.device u.journal u.meta (carried u.flight) u.freeing.items n rec _ core.journaled.runs core.held is) runs.shows (from + k) (omega (arith, below))))

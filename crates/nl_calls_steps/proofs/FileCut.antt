@@ -189,7 +189,7 @@ module _ {D : Type 0} (g : Ghosts D) (v : Core D) (d : D) (half : Pages) (n size
       (record {
         runs = read_core.journaled.runs;
         free = record { count_nodes = read_core.free.count_nodes; count_pool = read_core.free.count_pool; nodes = read_core.free.nodes; pool = read_core.free.pool };
-        held = subst (λ (xs : List Pointer). IsHeldVolume g d v.journal half (carried v.flight) xs) (sym same) read_core.held;
+        held = subst (λ (xs : List Pointer). IsHeldVolume g d v.journal half (carried v.flight) xs v.leaving) (sym same) read_core.held;
         as_many = let items = ap length same in omega (arith, items);
         few = read_core.space.few;
         flight = read_core.flight;
@@ -259,8 +259,8 @@ module _ {D : Type 0} (g : Ghosts D) (v : Core D) (d : D) (half : Pages) (n size
       pub ran : RunsCut g d n size partial was is half m v.nodes s
       ran = cut_runs g d n size partial was is half cuts.between m v.nodes s volume_d read_core.journaled.runs on
 
-      holds : KeepsVolumeHeld g d v.journal half m flight later v.freeing.items gone
-      holds = cutting_holds g d v.journal flight later v.freeing.items n size partial was is half cuts.between m v.nodes s volume_d read_core.journaled begun_read.held on (partial_right g v worker n size was core.flight known partial of) given
+      holds : KeepsVolumeHeld g d v.journal half m flight later v.freeing.items v.leaving gone
+      holds = cutting_holds g d v.journal flight later v.freeing.items n size partial was is half cuts.between m v.nodes s _ volume_d read_core.journaled begun_read.held on (partial_right g v worker n size was core.flight known partial of) given
 
       awaits : f.items ≡ v.freeing.items ++ gone
       awaits =
@@ -289,7 +289,7 @@ module _ {D : Type 0} (g : Ghosts D) (v : Core D) (d : D) (half : Pages) (n size
           nodes = ran.cut.nodes read_core.free.nodes;
           pool = ran.cut.pool read_core.free.pool;
         };
-        held = subst (λ (xs : List Pointer). IsHeldVolume g d v.journal m later xs) (sym awaits) holds.held;
+        held = subst (λ (xs : List Pointer). IsHeldVolume g d v.journal m later xs v.leaving) (sym awaits) holds.held;
         as_many = let all = holds.as_many in let items = ap length awaits in omega (arith, all, items);
         few = let all = holds.as_many in let sum = length-append v.freeing.items gone in let most = read_core.space.few in let fewer = enough in omega (arith, all, sum, most, fewer);
         flight = (pages_land v.flight worker core.flight known).lines (length (worker_pages v worker));
@@ -405,7 +405,7 @@ module _ {D : Type 0} (g : Ghosts D) (v : Core D) (d : D) (half : Pages) (n size
           file_before = file_before;
           file_after = file_after;
           others = ran.cut.others;
-          lead = held_lead_once g d v.journal m later f.items held.held;
+          lead = held_lead_once g d v.journal m later f.items _ held.held;
           pages = pages_after;
           few = cut_core.space.few;
           leads = leads_read;

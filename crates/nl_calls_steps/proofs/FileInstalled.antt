@@ -154,8 +154,8 @@ module _ {D : Type 0} (g : Ghosts D) (v : Core D) (worker k n size : ℕ) (page 
     installed : FileIsInstalled (g.shape v.device) n page.index page.at was is (running_of g v) (running_on g v.device m) v.nodes s
     installed = subst (λ (r : InodeRec). FileIsInstalled (g.shape v.device) n page.index page.at was r (running_of g v) (running_on g v.device m) v.nodes s) (sym taken.sized) ran.installed
 
-    holds : KeepsVolumeHeld g v.device v.journal v.meta m flight later v.freeing.items (as_list before)
-    holds = installing_holds g v.device v.journal flight later v.freeing.items n page.index size page.at was taken.installed v.meta taken.between m v.nodes s volume core.journaled core.held on lost
+    holds : KeepsVolumeHeld g v.device v.journal v.meta m flight later v.freeing.items v.leaving (as_list before)
+    holds = installing_holds g v.device v.journal flight later v.freeing.items n page.index size page.at was taken.installed v.meta taken.between m v.nodes s _ volume core.journaled core.held on lost
 
     step : Steps g v w
     step = record { reads = reads-none g v.device; read_faults = omega arith; pages = ran.pages; room = left; others = refl }
@@ -197,7 +197,7 @@ module _ {D : Type 0} (g : Ghosts D) (v : Core D) (worker k n size : ℕ) (page 
         nodes = installed.nodes core.free.nodes;
         pool = installed.pool;
       };
-      held = subst (λ (xs : List Pointer). IsHeldVolume g v.device v.journal m later xs) (sym freed) holds.held;
+      held = subst (λ (xs : List Pointer). IsHeldVolume g v.device v.journal m later xs v.leaving) (sym freed) holds.held;
       as_many = let all = holds.as_many in let sum = length-append v.freeing.items (as_list before) in let now = items in omega (arith, all, sum, now);
       few = few;
       flight = (pages_land v.flight worker lines known).lines (k + 1);

@@ -39,7 +39,7 @@ module _ {D : Type 0} (g : Ghosts D) (v : Core D) (page_of_stamp : ℕ → Optio
         → g.bytes v.device (place_of (names_of g v) (pointer_at (running_of g v) rec i)) ≡ bytes_for page_of_stamp (pointer_at (running_of g v) rec i).stamp
     bytes-at i low some =
         let p = pointer_at (running_of g v) rec i in
-        let l = (files_lead g v.device v.journal v.meta (carried v.flight) v.freeing.items n rec core.journaled.runs core.held is i low some).leads in
+        let l = (files_lead g v.device v.journal v.meta (carried v.flight) v.freeing.items n rec _ core.journaled.runs core.held is i low some).leads in
         let shown = at.shows (place_of (names_of g v) p) l.0 l.1 in
         let stamp : l.0.stamp ≡ p.stamp = l.2.1 in
         sym (ap (λ (o : Option PageOfStamp). unwrap_or (option_map (λ x. x.bytes) o) []) (ap page_of_stamp (sym stamp) ∙ shown))

@@ -15,6 +15,7 @@ use Rattle.nl_spec_commits.specs.Trees.{RepresentsTree}
 use Rattle.nl_core.specs.Core.{IsCore, begun_of, running_of}
 use Rattle.nl_core.specs.Goes.{PreservesVolume}
 use Rattle.nl_core.specs.declared.state.Core.{Core}
+use Rattle.nl_core.proofs.Counts.{onward_as}
 use Rattle.nl_core.proofs.Running.{with_none}
 use Rattle.nl_calls_steps.specs.Steps.{ReadAlike, ReadsOn, Steps}
 use Rattle.nl_calls_steps.proofs.Stepping.{read_alike, steps_go, steps_leave, steps_run}
@@ -44,6 +45,7 @@ module _ {D : Type 0} (g : Ghosts D) (v w : Core D) (core : IsCore g v) (volume 
         writes = omega (arith, writes);
         clock = omega (arith, clock);
         moment = inl (ap (λ (x : Core D). x.moment) step.others, ap (λ (x : Core D). x.committed) step.others);
+        onward = onward_as v w (ap (λ (x : Core D). x.committed) step.others) (ap (λ (x : Core D). x.frozen) step.others) (ap (λ (x : Core D). x.journal) step.others) step.pages.same_frozen;
         stops = record {
           stands = λ off. same_stopped;
           none = λ none rose. let low = (core.writes (sym same_stopped ∙ none)).counts in omega (arith, low, rose, writes);

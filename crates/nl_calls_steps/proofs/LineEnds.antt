@@ -28,7 +28,7 @@ module _ {D : Type 0} (g : Ghosts D) (v : Core D) (flight : List InFlight) (core
   held = record {
     runs = core.journaled.runs;
     free = record { count_nodes = core.free.count_nodes; count_pool = core.free.count_pool; nodes = core.free.nodes; pool = core.free.pool };
-    held = subst (λ (xs : List (Tag × Pointer)). IsHeldVolume g v.device v.journal v.meta xs v.freeing.items) (sym same) core.held;
+    held = subst (λ (xs : List (Tag × Pointer)). IsHeldVolume g v.device v.journal v.meta xs v.freeing.items v.leaving) (sym same) core.held;
     as_many = let n = ap length same in omega (arith, n);
     few = core.space.few;
     flight = lines;

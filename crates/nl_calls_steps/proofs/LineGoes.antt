@@ -220,7 +220,7 @@ module _ {D : Type 0} (g : Ghosts D) (v : Core D) (worker n size first : ℕ) (w
         entries = runs.entries;
         file = file_before;
         others = at.others;
-        lead = held_lead_once g v.device v.journal m (carried (landed v.flight worker k)) f.items at.core.held;
+        lead = held_lead_once g v.device v.journal m (carried (landed v.flight worker k)) f.items _ at.core.held;
         pages = at.pages page_of_stamp right there;
       })
 

@@ -72,7 +72,7 @@ module _ {D : Type 0} (g : Ghosts D) (v : Core D) (worker n size first : ℕ) (w
       file_before = file_before;
       file_after = is_file_at (g.shape v.device) after n is runs.addresses at.file.is_node at.file.is_file;
       others = at.others;
-      lead = held_lead_once g v.device v.journal m (carried (landed v.flight worker (length (worker_pages v worker)))) f.items at.core.held;
+      lead = held_lead_once g v.device v.journal m (carried (landed v.flight worker (length (worker_pages v worker)))) f.items _ at.core.held;
       pages = at.pages page_of_stamp stood.right there;
       few = at.core.space.few;
       leads = leads;

@@ -35,6 +35,7 @@ use Rattle.nl_spec_commits.proofs.Trees.{runs_alike}
 use Rattle.nl_core.specs.Core.{HasSpace, IsCore, IsPhysical, begun_of, names_of, running_of}
 use Rattle.nl_core.specs.Trees.{CoreRepresentsTree, CoreRepresents, CoreIsObservable}
 use Rattle.nl_core.specs.declared.state.Core.{Core}
+use Rattle.nl_core.proofs.Counts.{counts_as}
 use Rattle.nl_core.proofs.Running.{runs_with}
 use Rattle.nl_core.proofs.Written.{has_free_on, same_running}
 use Rattle.nl_calls_steps.specs.Steps.{IsHeldAfter, ReadAlike, ReadsAreAlike, ReadsOn, Steps, StepsAreCores, StepsGo, StepsLeave, StepsRun, StepsThen}
@@ -93,6 +94,7 @@ module _ {D : Type 0} (g : Ghosts D) (v w : Core D) (core : IsCore g v) (volume 
       journaled = steps_journaled g v.device w.device v.journal v.meta w.meta volume core.journaled kept.virtual step.pages h.runs;
       free = record { count_nodes = h.free.count_nodes; count_pool = h.free.count_pool; nodes = h.free.nodes; pool = h.free.pool };
       held = h.held;
+      counts = counts_as v stepped core.counts refl refl refl refl refl step.pages.same_frozen;
       flight = h.flight;
       named = λ x has. subst (λ (k : Shape). IsPhysical k x.1.name) (sym same_shape) (core.named x (h.fewer x has));
       stamped = λ x has. core.stamped x (h.fewer x has);
@@ -129,6 +131,7 @@ module _ {D : Type 0} (g : Ghosts D) (v w : Core D) (core : IsCore g v) (volume 
       stands = stands_on told.tells (numbers_before (ap (λ (x : Core D). x.journal) step.others)) at.stands;
       runs = subst (λ (x : Core D). CoreRepresentsTree g x page_of_stamp tree) step.others (steps_run g v w page_of_stamp t.running tree told.tells step at.runs runs);
       committed = at.committed;
+      frozen = at.frozen;
     })
       where
         numbers_before : w.journal ≡ v.journal → HasNumber v.journal (length v.meta.frozen.addresses)
@@ -182,9 +185,9 @@ module _ {D : Type 0} (g : Ghosts D) (v w : Core D) (volume : IsVolumeShape (g.s
         record {
           runs = runs-then g v.device v.meta w.device w.meta (bounds-of (g.shape v.device) volume) r.runs core.journaled.runs;
           free = has_free_on g v w read_shape volume r.runs.needed (ap (λ (x : Core D). x.nodes) r.others) core.free;
-          held = subst (λ (f : List InFlight). IsHeldVolume g w.device v.journal w.meta (carried f) w.freeing.items) (sym flight)
-              (subst (λ (f : PointerItems). IsHeldVolume g w.device v.journal w.meta (carried v.flight) f.items) (sym freeing)
-              (reading_keeps_held g v.device w.device v.journal v.meta w.meta (carried v.flight) v.freeing.items volume core.journaled core.held r.runs));
+          held = subst (λ (f : List InFlight). IsHeldVolume g w.device v.journal w.meta (carried f) w.freeing.items v.leaving) (sym flight)
+              (subst (λ (f : PointerItems). IsHeldVolume g w.device v.journal w.meta (carried v.flight) f.items v.leaving) (sym freeing)
+              (reading_keeps_held g v.device w.device v.journal v.meta w.meta (carried v.flight) v.freeing.items _ volume core.journaled core.held r.runs));
           as_many = omega (arith, running, fly, free_);
           few = let most = core.space.few in omega (arith, running, most);
           flight = subst IsFlight (sym flight) core.flight;

@@ -33,7 +33,7 @@ pub record Steps {D : Type 0} (g : Ghosts D) (old new : Core D) : Type 0 where
 pub record IsHeldAfter {D : Type 0} (g : Ghosts D) (old new : Core D) : Type 0 where
   pub runs : RunningIsRight g new.device new.meta
   pub free : FreeAreUnused g new
-  pub held : IsHeldVolume g new.device old.journal new.meta (carried new.flight) new.freeing.items
+  pub held : IsHeldVolume g new.device old.journal new.meta (carried new.flight) new.freeing.items old.leaving
   pub as_many : length (running_holders g new.device new.meta) + length (carried new.flight) + length new.freeing.items
       ≡ length (running_holders g old.device old.meta) + length (carried old.flight) + length old.freeing.items
   pub few : length (running_holders g new.device new.meta) ≤ (g.shape old.device).cap

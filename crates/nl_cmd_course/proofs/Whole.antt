@@ -1,5 +1,5 @@
 -- The sentences hold of the course of the rows: each from what the workers, the volume and its closing say.
-use Rattle.std.proofs.Common.{◌≡◌, ℕ, ◌+◌, ◌^◌, ◌<◌, ◌≤◌, Bool, true, false, List, [], length, Some, sym, ap, ◌∙◌, subst, arith}
+use Rattle.std.proofs.Common.{◌≡◌, ◌⊎◌, inl, inr, ⊎_elim, ℕ, ◌+◌, ◌^◌, ◌<◌, ◌≤◌, Bool, true, false, List, [], length, Some, sym, ap, ◌∙◌, subst, arith}
 use Rattle.std.proofs.lemmas.List.{length-map}
 use Rattle.std.proofs.lemmas.List.Sorted.{length_permutation}
 use Rattle.std.specs.Prelude.{AllPairs, IfSome}
@@ -42,7 +42,8 @@ pub record HasKept (tells : Type 0) (o : Opening) (h : List Entry) (before then 
   pub refused : (e : Entry) (n : ℕ) → Has h e → erofs_of (fault_of e.fault) ≡ Some n → n ≡ number
   pub ranges : SyncsInRange o h
   pub rising : AllPairs (λ a b. a.moment ≤ b.moment) (syncs_of h)
-  pub within : (s : SyncPoint) → Has (syncs_of h) s → Earlier before.clock s.moment × (before.clock ≤ s.moment) × (s.moment ≤ now.clock)
+  pub within : (s : SyncPoint) → Has (syncs_of h) s
+      → (Earlier before.clock s.moment ⊎ (s.upto ≡ o.count)) × (before.clock ≤ s.moment) × (s.moment ≤ now.clock)
 
 module _ (tells : Type 0) (lines : List Line) (o : Opening) (history : List Passed) (rows : List Row) (has : o.lines ≡ lines) (rise : AreLines lines) (order : IsOrderOf lines (answered_lines lines (entries history)))
     (table : AreRows tells o (entries history) rows) (placed : AllPlaced lines history) (before then now : Counts) (kept : HasKept tells o (entries history) before then now)
@@ -109,7 +110,7 @@ module _ (tells : Type 0) (lines : List Line) (o : Opening) (history : List Pass
       (λ s there.
       let w = kept.within s (subst (λ (xs : List SyncPoint). Has xs s) (ap (λ (r : Run). r.syncs) run_is) there) in
       let last = w.2 in
-      w.0 (let first = w.1 in omega (arith, first, last, young)))
+      ⊎_elim (λ later. inl (later (let first = w.1 in omega (arith, first, last, young)))) inr w.0)
 
   module _ (stops : Run → Type 0) (medium medium' : Medium) (lost worn : Bool) (charges : Charges) (counts : medium.counts ≡ before) (counts' : medium'.counts ≡ now)
       (opens : tells → OpensAs medium.contents (course_of o []))

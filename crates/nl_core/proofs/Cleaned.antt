@@ -33,10 +33,11 @@ use Rattle.nl_spec_commits.proofs.DeviceTrees.{addresses_go, holding_opens}
 use Rattle.nl_spec_commits.proofs.Firm.{stored_keeps_firm}
 use Rattle.nl_spec_commits.proofs.Steps.{cleaning_keeps_held}
 use Rattle.nl_core.specs.Core.{HasSpace, IsCore, IsPhysical, begun_of, names_of, running_of}
-use Rattle.nl_core.specs.Goes.{PreservesVolume, PreservesTrees, PreservesTree}
+use Rattle.nl_core.specs.Goes.{CommitsOnward, PreservesVolume, PreservesTrees, PreservesTree}
 use Rattle.nl_core.specs.Trees.{CoreRepresentsTree, CoreRepresents, CoreIsObservable}
 use Rattle.nl_core.specs.Writing.{stopped_on}
 use Rattle.nl_core.specs.declared.state.Core.{Core}
+use Rattle.nl_core.proofs.Counts.{counts_as, onward_as}
 use Rattle.nl_core.proofs.Running.{goes_as, runs_on, with_none}
 use Rattle.nl_core.proofs.Written.{below_end, has_free_on, none_failed_on, same_running, stops_on}
 
@@ -111,7 +112,8 @@ module _ {D : Type 0} (g : Ghosts D) (v w : Core D) (others : w ≡ record v { d
     shape = core.shape ∙ sym k.virtual.same_shape;
     journaled = stands.journaled;
     free = has_free_on g v now k.virtual.same_shape volume stands.needed refl core.free;
-    held = cleaning_keeps_held g v.device w.device v.journal v.meta (carried v.flight) v.freeing.items volume core.journaled core.held k.virtual k.pages.holders;
+    held = cleaning_keeps_held g v.device w.device v.journal v.meta (carried v.flight) v.freeing.items _ volume core.journaled core.held k.virtual k.pages.holders;
+    counts = counts_as v now core.counts refl refl refl refl refl refl;
     flight = core.flight;
     named = λ x has. subst (λ (h : Shape). IsPhysical h x.1.name) (sym k.virtual.same_shape) (core.named x has);
     stamped = core.stamped;
@@ -157,7 +159,7 @@ module _ {D : Type 0} (g : Ghosts D) (v w : Core D) (others : w ≡ record v { d
   goes_to : CoreIsObservable g w → (page_of_stamp : ℕ → Option PageOfStamp) (t : Trees) → CoreRepresents g v page_of_stamp t → PreservesTrees g v w page_of_stamp t
   goes_to told page_of_stamp t at = subst (λ (x : Core D). PreservesTrees g v x page_of_stamp t) (sym others)
       (goes_as g v now page_of_stamp t (with_none g now page_of_stamp t.running (runs_now told.tells page_of_stamp t.running at.runs))
-      (addresses_go g v.device w.device v.journal v.meta v.count page_of_stamp t volume told.tells (told_held told) core.journaled k.virtual at.stands) at.committed)
+      (addresses_go g v.device w.device v.journal v.meta v.count page_of_stamp t volume told.tells (told_held told) core.journaled k.virtual at.stands) at.committed at.frozen)
 
   leaves_to : CoreIsObservable g w → (page_of_stamp : ℕ → Option PageOfStamp) (t : Trees) (y : Prefix) → y.0 ≡ w.committed → CoreRepresents g v page_of_stamp t → CrashStatesHave g (OpensFrom (g.shape v.device) v.count w.moment t y) v.device w.device
   leaves_to told page_of_stamp t y is at =
@@ -171,7 +173,7 @@ module _ {D : Type 0} (g : Ghosts D) (v w : Core D) (others : w ≡ record v { d
               (
                 t.committed,
                 inl refl,
-                holding_opens g v.device v.journal v.meta v.count page_of_stamp t (carried v.flight) v.freeing.items (g.stored_of c) volume told.tells (told_held told) core.held
+                holding_opens g v.device v.journal v.meta v.count page_of_stamp t (carried v.flight) v.freeing.items (g.stored_of c) _ volume told.tells (told_held told) core.held
                     ((core.writes writes).firm (told.tells, told_held told)) (map told.tells) at.stands (leaves_holding page_of_stamp t at told (g.stored_of c) x.2),
                 λ after. let same = at.committed in let kept = ap (λ (z : Core D). z.committed) others in omega (arith, is, kept, same),
               ),
@@ -189,6 +191,7 @@ module _ {D : Type 0} (g : Ghosts D) (v w : Core D) (others : w ≡ record v { d
     reads = reads;
     writes = fails;
     moment = inl (ap (λ (z : Core D). z.moment) others, ap (λ (z : Core D). z.committed) others);
+    onward = subst (λ (x : Core D). CommitsOnward v x) (sym others) (onward_as v now refl refl refl refl);
     clock = k.clock;
     stops = stops_on g v w stopped reads fails;
     stamps = record {

@@ -43,6 +43,7 @@ use Rattle.nl_core.specs.Goes.{PreservesVolume, PreservesTrees, TurnsReadOnly}
 use Rattle.nl_core.specs.Trees.{CoreRepresentsTree, CoreRepresents, CoreIsObservable}
 use Rattle.nl_core.specs.Dropping.{FreesLine, pointers_of}
 use Rattle.nl_core.specs.declared.state.Core.{Core}
+use Rattle.nl_core.proofs.Counts.{counts_as, onward_as}
 use Rattle.nl_core.proofs.Lines.{after, before, carried_alike, carried_own, carried_with, held, in_flight, kept_without, loses_page, none_is_flight}
 use Rattle.nl_core.proofs.Running.{goes_as, runs_on, with_none}
 use Rattle.nl_core.proofs.Settled.{Fewer, frees_fewer, frees_space}
@@ -153,8 +154,8 @@ module _ {D : Type 0} (g : Ghosts D) (v : Core D) (d : D) (worker : ℕ) (worker
         committed = λ f k. all_safe v.flight worker known own h (g.names d) old is all (to_words f) k;
       })
 
-  dropped_held : IsHeldVolume g d v.journal v.meta (carried later) v.freeing.items
-  dropped_held = step_keeps_held g v.device d v.journal v.meta v.meta (carried v.flight) (carried later) v.freeing.items v.freeing.items volume core.journaled core.held b.kept.virtual refl
+  dropped_held : IsHeldVolume g d v.journal v.meta (carried later) v.freeing.items v.leaving
+  dropped_held = step_keeps_held g v.device d v.journal v.meta v.meta (carried v.flight) (carried later) v.freeing.items v.freeing.items _ volume core.journaled core.held b.kept.virtual refl
       (λ h number. subst (λ (r : List (Tag × Pointer)). PreservesHolding (holding_with g v.device v.meta (carried v.flight) v.freeing.items h) (record h { names = g.names d; running = r; flight = carried later; freeing = v.freeing.items }))
       (sym running) (keeps (holding_with g v.device v.meta (carried v.flight) v.freeing.items h) refl refl))
 
@@ -222,6 +223,7 @@ module _ {D : Type 0} (g : Ghosts D) (v : Core D) (d : D) (worker : ℕ) (worker
     journaled = (addresses_stand g v.device d v.journal v.meta volume core.journaled b.kept.virtual).journaled;
     free = has_free_on g v dropped same_shape volume needed refl core.free;
     held = dropped_held;
+    counts = counts_as v dropped core.counts refl refl refl refl refl refl;
     flight = none_is_flight v.flight worker core.flight worker_known;
     named = λ x has. subst (λ (h : Shape). IsPhysical h x.1.name) (sym same_shape) (core.named x (kept_without v.flight worker known x has));
     stamped = λ x has. core.stamped x (kept_without v.flight worker known x has);
@@ -251,7 +253,7 @@ module _ {D : Type 0} (g : Ghosts D) (v : Core D) (d : D) (worker : ℕ) (worker
 
   goes_to : CoreIsObservable g dropped → (page_of_stamp : ℕ → Option PageOfStamp) (t : Trees) → CoreRepresents g v page_of_stamp t → PreservesTrees g v dropped page_of_stamp t
   goes_to told page_of_stamp t at = goes_as g v dropped page_of_stamp t (with_none g dropped page_of_stamp t.running (runs_to told.tells page_of_stamp t.running at.runs))
-      (addresses_go g v.device d v.journal v.meta v.count page_of_stamp t volume told.tells told.numbers core.journaled b.kept.virtual at.stands) at.committed
+      (addresses_go g v.device d v.journal v.meta v.count page_of_stamp t volume told.tells told.numbers core.journaled b.kept.virtual at.stands) at.committed at.frozen
 
   pub dropped_goes : PreservesVolume g 0 v dropped
   dropped_goes = record {
@@ -263,6 +265,7 @@ module _ {D : Type 0} (g : Ghosts D) (v : Core D) (d : D) (worker : ℕ) (worker
     reads = let same = b.read_faults in omega (arith, same);
     writes = let same = b.kept.write_faults in omega (arith, same);
     moment = inl (refl, refl);
+    onward = onward_as v dropped refl refl refl refl;
     clock = let same = b.kept.clock in omega (arith, same);
     stops = stops;
     stamps = record {

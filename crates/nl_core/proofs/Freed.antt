@@ -1,6 +1,8 @@
--- The pages of a line are freed place by place.
-use Rattle.std.proofs.Common.{◌≡◌, ⊎_elim, ℕ, ◌+◌, ◌<◌, List, [], ◌∷◌, ◌++◌, take, sym, ap, subst, ◌∙◌, arith}
-use Rattle.std.proofs.lemmas.List.{length-map, take_all, take_more}
+-- The pages of a line are freed place by place, and the first of those that await their free.
+use Rattle.std.proofs.Common.{◌≡◌, ⊎_elim, ℕ, ◌+◌, ◌<◌, List, [], ◌∷◌, ◌++◌, length, take, drop, sym, ap, subst, ◌∙◌, arith}
+use Rattle.std.specs.Prelude.{min}
+use Rattle.std.proofs.lemmas.Bool.{cases_lt}
+use Rattle.std.proofs.lemmas.List.{drop_all, length-map, take_all, take_more}
 use Rattle.std.proofs.lemmas.List.Sums.{get_or-le-sum_by}
 use Rattle.std.proofs.lemmas.Option.{get_or_from_slice_get, slice_get_within}
 use Rattle.nl_field.specs.declared.pointer.Pointer.{Pointer}
@@ -28,3 +30,10 @@ all_freed flight worker is known s t freed =
     let more = get_or-le-sum_by extra flight worker (begun 0) (in_flight flight worker is known) in
     let most = is.places in
     subst (λ (xs : List Pointer). FreesEach xs s t) (take_all 18 ps (omega (arith, size, more, most))) freed
+
+-- with no more than there are
+pub drop_min : (n : ℕ) (xs : List Pointer) → drop (min n (length xs)) xs ≡ drop n xs
+drop_min n xs = ⊎_elim
+    (λ within. ap (λ k. drop k xs) (let e : min n (length xs) ≡ n = omega (arith, within) in e))
+    (λ past. ap (λ k. drop k xs) (let e : min n (length xs) ≡ length xs = omega (arith, past) in e) ∙ drop_all (length xs) xs (omega arith) ∙ sym (drop_all n xs past))
+    (cases_lt n (length xs))

@@ -153,21 +153,24 @@ module _ (flight : List InFlight) (worker : ℕ) (is : IsFlight flight) (worker_
           subst (λ (y : InFlight). IsFlight (with_line flight worker (behind y tag at))) (sym is_old)
           (more_is_flight (behind (of_worker flight worker) tag at) (omega (arith, has)) (omega (arith, size)) place)
 
--- ---- a page that is put behind the others
+-- ---- a page that is put behind the others, and a goal
+
+same_pages : (flight : List InFlight) (worker line : ℕ) → IsFlight flight → (line_of flight worker line).pages ≡ (of_worker flight worker).pages
+same_pages flight worker line is = by (cases_eq (of_worker flight worker).line 0)
+  where
+    by : ((of_worker flight worker).line ≡ 0) ⊎ ((of_worker flight worker).line ≢ 0) → (line_of flight worker line).pages ≡ (of_worker flight worker).pages
+    by (inl none) =
+        ap (λ (y : InFlight). y.pages) (cond-true ((of_worker flight worker).line == 0) (begun line) (of_worker flight worker) (eq-eqb (of_worker flight worker).line 0 none)) ∙ sym (is.idle worker none).0
+    by (inr has) = ap (λ (y : InFlight). y.pages) (cond-false ((of_worker flight worker).line == 0) (begun line) (of_worker flight worker) (ne_eqb (of_worker flight worker).line 0 has))
+
+-- a line whose pages stay carries what it carried
+pub carried_line : (flight : List InFlight) (worker line : ℕ) (z : InFlight) → IsFlight flight → worker < 8 → z.pages ≡ (line_of flight worker line).pages → carried (with_line flight worker z) ≡ carried flight
+carried_line flight worker line z is worker_known same =
+    carried_alike flight worker (in_flight flight worker is worker_known) z (of_worker flight worker) (same ∙ same_pages flight worker line is) ∙ ap carried (set-get_or flight worker (begun 0))
 
 module _ (flight : List InFlight) (worker line : ℕ) (tag : Tag) (at : Pointer) (is : IsFlight flight) (worker_known : worker < 8) where
-  same_pages : (line_of flight worker line).pages ≡ (of_worker flight worker).pages
-  same_pages = by (cases_eq (of_worker flight worker).line 0)
-    where
-      by : ((of_worker flight worker).line ≡ 0) ⊎ ((of_worker flight worker).line ≢ 0) → (line_of flight worker line).pages ≡ (of_worker flight worker).pages
-      by (inl none) =
-          ap (λ (y : InFlight). y.pages) (cond-true ((of_worker flight worker).line == 0) (begun line) (of_worker flight worker) (eq-eqb (of_worker flight worker).line 0 none)) ∙ sym (is.idle worker none).0
-      by (inr has) = ap (λ (y : InFlight). y.pages) (cond-false ((of_worker flight worker).line == 0) (begun line) (of_worker flight worker) (ne_eqb (of_worker flight worker).line 0 has))
-
   pub gains_put : ListGains tagged (tag, at) (carried flight) (carried (with_page flight worker line tag at))
   gains_put =
       let known : worker < length flight = in_flight flight worker is worker_known in
-      let before : carried (with_line flight worker (line_of flight worker line)) ≡ carried flight =
-      carried_alike flight worker known (line_of flight worker line) (of_worker flight worker) same_pages ∙ ap carried (set-get_or flight worker (begun 0)) in
-      subst (λ (xs : List (Tag × Pointer)). ListGains tagged (tag, at) xs (carried (with_page flight worker line tag at))) before
+      subst (λ (xs : List (Tag × Pointer)). ListGains tagged (tag, at) xs (carried (with_page flight worker line tag at))) (carried_line flight worker line (line_of flight worker line) is worker_known refl)
       (gains_page flight worker known (line_of flight worker line) (behind (line_of flight worker line) tag at) (record { index = tag.index; at = at; tag = tag }) refl)

@@ -16,6 +16,7 @@ use Rattle.nl_core.specs.Core.{IsCore, begun_of}
 use Rattle.nl_core.specs.Goes.{PreservesVolume, PreservesTrees, PaidSince, PreservesTree, TurnsReadOnly}
 use Rattle.nl_core.specs.Trees.{CoreRepresentsTree, CoreRepresents, CoreIsObservable}
 use Rattle.nl_core.specs.declared.state.Core.{Core}
+use Rattle.nl_core.proofs.Counts.{onward_none, onward_then}
 use Rattle.nl_core.proofs.Running.{with_none}
 
 -- a count that did not rise
@@ -147,6 +148,7 @@ module _ {D : Type 0} (g : Ghosts D) (u v w : Core D) (m n : ℕ) (a : Preserves
     reads = let one = a.reads in let two = b.reads in omega (arith, one, two);
     writes = let one = a.writes in let two = b.writes in omega (arith, one, two);
     moment = moment_then b.moment a.moment;
+    onward = onward_then u v w a.count a.onward b.onward;
     clock = let one = a.clock in let two = b.clock in omega (arith, one, two);
     stops = stops_then;
     stamps = record {
@@ -191,6 +193,7 @@ goes_more g m n u v low a = record {
   writes = a.writes;
   clock = a.clock;
   moment = a.moment;
+  onward = a.onward;
   stops = a.stops;
   stamps = record { never_falls = a.stamps.never_falls; at_most = let most = a.stamps.at_most in omega (arith, most, low); paid = a.stamps.paid };
   posted = a.posted;
@@ -211,6 +214,7 @@ goes_none g v core = record {
   writes = omega arith;
   clock = omega arith;
   moment = inl (refl, refl);
+  onward = onward_none v;
   stops = record {
     stands = λ off. refl;
     none = λ none rose. let low = (core.writes none).counts in omega (arith, low, rose);

@@ -45,6 +45,7 @@ use Rattle.nl_core.specs.Programming.{ProgramsNewName, PutsNone, PutsPage, with_
 use Rattle.nl_core.specs.Trees.{CoreRepresentsTree, CoreRepresents, CoreIsObservable}
 use Rattle.nl_core.specs.Writing.{stopped_by, stopped_on}
 use Rattle.nl_core.specs.declared.state.Core.{Core}
+use Rattle.nl_core.proofs.Counts.{counts_as, onward_as}
 use Rattle.nl_core.proofs.Lines.{gains_put, page_is_flight}
 use Rattle.nl_core.proofs.Running.{goes_as, runs_as, runs_on, with_none}
 use Rattle.nl_core.proofs.Written.{below_end, has_free_on, none_failed_on, same_running, stops_on}
@@ -134,7 +135,7 @@ module _ {D : Type 0} (g : Ghosts D) (v : Core D) (d : D) (flight : List InFligh
         room = subst (λ (h : Shape). h.pblocks * h.pages ≤ length v.freeing.items + v.freeing.room) (sym same_shape) s.room;
       }
 
-  pub programmed_core : (g.tells → StoresPages g d) → IsHeldVolume g d v.journal v.meta (carried flight) v.freeing.items → IsFlight flight → ((x : Tag × Pointer) → Has (carried flight) x → IsPhysical (g.shape v.device) x.1.name)
+  pub programmed_core : (g.tells → StoresPages g d) → IsHeldVolume g d v.journal v.meta (carried flight) v.freeing.items v.leaving → IsFlight flight → ((x : Tag × Pointer) → Has (carried flight) x → IsPhysical (g.shape v.device) x.1.name)
       → ((x : Tag × Pointer) → Has (carried flight) x → IsTrue (is_stamp x.1.stamp))
       → (g.names d).space.live + length (carried v.flight) ≡ (names_of g v).space.live + length (carried flight) → g.formed d → IsCore g programmed
   programmed_core stores held lines named stamped live formed = record {
@@ -143,6 +144,7 @@ module _ {D : Type 0} (g : Ghosts D) (v : Core D) (d : D) (flight : List InFligh
     journaled = (addresses_stand g v.device d v.journal v.meta volume core.journaled b.kept.virtual).journaled;
     free = has_free_on g v programmed same_shape volume needed refl core.free;
     held = held;
+    counts = counts_as v programmed core.counts refl refl refl refl refl refl;
     flight = lines;
     named = λ x has. subst (λ (h : Shape). IsPhysical h x.1.name) (sym same_shape) (named x has);
     stamped = stamped;
@@ -197,7 +199,7 @@ module _ {D : Type 0} (g : Ghosts D) (v : Core D) (d : D) (flight : List InFligh
       opens m c x = (
         t.committed,
         inl refl,
-        holding_opens g v.device v.journal v.meta v.count page_of_stamp t (carried v.flight) v.freeing.items c volume told.tells told.numbers core.held (firm told) (map told.tells) at.stands
+        holding_opens g v.device v.journal v.meta v.count page_of_stamp t (carried v.flight) v.freeing.items c _ volume told.tells told.numbers core.held (firm told) (map told.tells) at.stands
             (leaves_holding told page_of_stamp at.runs.shows c x),
         λ after. let same = at.committed in omega (arith, is, same),
       )
@@ -274,7 +276,7 @@ module _ {D : Type 0} (g : Ghosts D) (v : Core D) (d : D) (flight : List InFligh
       let k = runs_to told.tells page_of_stamp t.running at.runs in
       goes_as g v programmed page_of_stamp t k
       (pages_go g d v.journal v.meta v.count page_of_stamp k.pages t k.extends
-      (addresses_go g v.device d v.journal v.meta v.count page_of_stamp t volume told.tells told.numbers core.journaled b.kept.virtual at.stands)) at.committed
+      (addresses_go g v.device d v.journal v.meta v.count page_of_stamp t volume told.tells told.numbers core.journaled b.kept.virtual at.stands)) at.committed at.frozen
 
   pub programmed_goes : (g.tells → StoresMap g v.device) → PreservesVolume g 1 v programmed
   programmed_goes map = record {
@@ -286,6 +288,7 @@ module _ {D : Type 0} (g : Ghosts D) (v : Core D) (d : D) (flight : List InFligh
     reads = reads_on;
     writes = b.counts.faults.never_falls;
     moment = inl (refl, refl);
+    onward = onward_as v programmed refl refl refl refl;
     clock = b.counts.ticks.clock;
     stops = stops_on g v programmed refl reads_on b.counts.faults.never_falls;
     stamps = record { never_falls = b.next_stamp.never_falls; at_most = b.next_stamp.at_most_one; paid = b.next_stamp.paid };
@@ -329,7 +332,7 @@ module _ {D : Type 0} (g : Ghosts D) (v w : Core D) (tag : Tag) (main : List ℕ
 
     pub none_core : g.formed w.device → IsCore g w
     none_core formed = subst (λ (x : Core D). IsCore g x) (sym is) (programmed_core g v w.device v.flight tag main answer b core volume writes stores
-        (tables_keep_held g v.device w.device v.journal v.meta (carried v.flight) v.freeing.items volume core.journaled core.held b.kept.virtual (b.none off).tables) core.flight core.named core.stamped
+        (tables_keep_held g v.device w.device v.journal v.meta (carried v.flight) v.freeing.items _ volume core.journaled core.held b.kept.virtual (b.none off).tables) core.flight core.named core.stamped
         (let same = same_live g answer v.device w.device off (b.none off) b.refused in omega (arith, same)) formed)
 
     pub none_goes : PreservesVolume g 1 v w
@@ -361,7 +364,7 @@ module _ {D : Type 0} (g : Ghosts D) (v w : Core D) (tag : Tag) (main : List ℕ
 
     pub put_core : IsTrue (is_stamp (g.next_stamp v.device)) → g.formed w.device → IsCore g put_in
     put_core spelled formed = subst (λ (x : Core D). IsCore g x) (sym put_is) (programmed_core g v w.device lines tag main answer b core volume writes stores
-        (program_keeps_held g v.device w.device v.journal v.meta (carried v.flight) (carried lines) v.freeing.items tag main p volume core.journaled core.held b.kept.virtual numbers places gains)
+        (program_keeps_held g v.device w.device v.journal v.meta (carried v.flight) (carried lines) v.freeing.items tag main p _ volume core.journaled core.held b.kept.virtual numbers places gains)
         (page_is_flight v.flight worker core.flight known line tag p some place)
         (λ x has. ⊎_elim (λ is. subst (λ (y : Tag × Pointer). IsPhysical (g.shape v.device) y.1.name) (sym is) (places.is_new.low, places.is_new.high)) (core.named x) (gains.only x has))
         (λ x has. ⊎_elim (λ is. subst (λ (y : Tag × Pointer). IsTrue (is_stamp y.1.stamp)) (sym is) (subst (λ n. IsTrue (is_stamp n)) (sym places.stamp) spelled)) (core.stamped x) (gains.only x has))

@@ -40,11 +40,11 @@ with_none g w page_of_stamp tree at = record { pages = page_of_stamp; extends = 
 
 -- the trees are those of before, with what pages hold then
 pub goes_as : {D : Type 0} (g : Ghosts D) (v w : Core D) (page_of_stamp : ℕ → Option PageOfStamp) (t : Trees) (k : PreservesTree g w page_of_stamp t.running)
-    → RepresentsTrees g w.device w.journal w.meta w.count k.pages t → t.committed.0 ≡ w.committed → PreservesTrees g v w page_of_stamp t
-goes_as g v w page_of_stamp t k stands committed = record {
+    → RepresentsTrees g w.device w.journal w.meta w.count k.pages t → t.committed.0 ≡ w.committed → t.frozen.0 ≡ w.frozen → PreservesTrees g v w page_of_stamp t
+goes_as g v w page_of_stamp t k stands committed frozen = record {
   pages = k.pages;
   trees = t;
-  stands = record { stands = stands; runs = k.runs; committed = committed };
+  stands = record { stands = stands; runs = k.runs; committed = committed; frozen = frozen };
   extends = k.extends;
   running = refl;
   committed = inl refl;

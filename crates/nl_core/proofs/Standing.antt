@@ -19,7 +19,7 @@ use Rattle.nl_core.specs.declared.state.Core.{Core}
 pub stored_opens : {D : Type 0} (g : Ghosts D) (v : Core D) → IsVolumeShape (g.shape v.device) → (g.tells → StoresMap g v.device) → IsCore g v → v.stopped ≡ 0 → StoredOpens g v
 stored_opens g v volume map core runs told page_of_stamp t at =
     let firm = (core.writes runs).firm (told.tells, told.numbers) in
-    holding_opens g v.device v.journal v.meta v.count page_of_stamp t (carried v.flight) v.freeing.items (stored g v.device) volume told.tells told.numbers core.held firm (map told.tells) at.stands
+    holding_opens g v.device v.journal v.meta v.count page_of_stamp t (carried v.flight) v.freeing.items (stored g v.device) _ volume told.tells told.numbers core.held firm (map told.tells) at.stands
     (now_holds g v.device page_of_stamp firm at.runs.shows)
 
 or_right : (b c : Bool) → c ≡ true → b || c ≡ true

@@ -49,6 +49,7 @@ use Rattle.nl_core.specs.Handling.{TriesNumber}
 use Rattle.nl_core.specs.Trees.{CoreRepresentsTree, CoreIsObservable}
 use Rattle.nl_core.specs.declared.state.Core.{Core}
 use Rattle.nl_core.proofs.Renamed.{Leads, as_many, runs_renamed}
+use Rattle.nl_core.proofs.Counts.{counts_as, onward_as}
 use Rattle.nl_core.proofs.Running.{goes_as, runs_with, with_none}
 
 -- ---- lines in flight that are the same but for names
@@ -171,8 +172,8 @@ module _ {D : Type 0} (g : Ghosts D) (v w : Core D) (mark number : ℕ) (answer 
     some = λ none later. absurd (later (same_stopped ∙ none));
   }
 
-  held_on : IsHeldVolume g w.device v.journal w.meta (carried w.flight) w.freeing.items
-  held_on = handling_keeps_held g v.device w.device v.journal v.meta w.meta (carried v.flight) (carried w.flight) v.freeing.items w.freeing.items mark volume core.journaled core.held kept.virtual
+  held_on : IsHeldVolume g w.device v.journal w.meta (carried w.flight) w.freeing.items v.leaving
+  held_on = handling_keeps_held g v.device w.device v.journal v.meta w.meta (carried v.flight) (carried w.flight) v.freeing.items w.freeing.items mark _ volume core.journaled core.held kept.virtual
       b.handles.pages.same_frozen (omega (arith, is)) (λ h later. b.handles.holders h later)
 
   same_names : SameButNames (graph_of (g.shape w.device) (running_of g v)) (graph_of (g.shape w.device) (running_of g w))
@@ -234,6 +235,9 @@ module _ {D : Type 0} (g : Ghosts D) (v w : Core D) (mark number : ℕ) (answer 
         room = subst (λ (h : Shape). h.pblocks * h.pages ≤ length w.freeing.items + w.freeing.room) (sym same_shape) (let r = s.room in omega (arith, r, freeing, rooms));
       }
 
+  abbrev now : Core D
+  now = record v { device = w.device; meta = w.meta; flight = w.flight; freeing = w.freeing }
+
   pub tried_core : g.formed w.device → IsCore g w
   tried_core formed = subst (λ (x : Core D). IsCore g x) (sym b.others) (record {
     formed = formed;
@@ -241,6 +245,7 @@ module _ {D : Type 0} (g : Ghosts D) (v w : Core D) (mark number : ℕ) (answer 
     journaled = steps_journaled g v.device w.device v.journal v.meta w.meta volume core.journaled kept.virtual b.handles.pages b.runs;
     free = free_on;
     held = held_on;
+    counts = counts_as v now core.counts refl refl refl refl refl b.handles.pages.same_frozen;
     flight = flight_stays v.flight w.flight b.handles.flight core.flight;
     named = λ x has. subst (λ (h : Shape). IsPhysical h x.1.name) (sym same_shape) (named_on x has);
     stamped = λ x has. let k = same_stamp v.flight w.flight b.handles.flight x has in subst (λ n. IsTrue (is_stamp n)) k.2 (core.stamped k.0 k.1);
@@ -269,9 +274,6 @@ module _ {D : Type 0} (g : Ghosts D) (v w : Core D) (mark number : ℕ) (answer 
   renamed_as : (page_of_stamp : ℕ → Option PageOfStamp) (tree : Tree) → RepresentsTree (g.shape v.device) (running_of g v) page_of_stamp tree → RepresentsTree (g.shape w.device) (running_of g w) page_of_stamp tree
   renamed_as page_of_stamp tree at = runs_renamed (g.shape w.device) (running_of g v) (running_of g w) same_names page_of_stamp (names_of g w) leads_on trees_stay tree
       (subst (λ (h : Shape). RepresentsTree h (running_of g v) page_of_stamp tree) (sym same_shape) at)
-
-  abbrev now : Core D
-  now = record v { device = w.device; meta = w.meta; flight = w.flight; freeing = w.freeing }
 
   runs_now : g.tells → (page_of_stamp : ℕ → Option PageOfStamp) (tree : Tree) → CoreRepresentsTree g v page_of_stamp tree → CoreRepresentsTree g now page_of_stamp tree
   runs_now tells page_of_stamp tree at =
@@ -307,6 +309,7 @@ module _ {D : Type 0} (g : Ghosts D) (v w : Core D) (mark number : ℕ) (answer 
     writes = writes_most;
     clock = let same = kept.clock in omega (arith, same);
     moment = inl (refl, refl);
+    onward = onward_as v now refl refl refl b.handles.pages.same_frozen;
     stops = subst (λ (x : Core D). TurnsReadOnly g v x) b.others stops;
     stamps = record {
       never_falls = let n = kept.next_stamp in omega (arith, n);
@@ -315,7 +318,7 @@ module _ {D : Type 0} (g : Ghosts D) (v w : Core D) (mark number : ℕ) (answer 
     };
     posted = let same : (names_of g w).posted ≡ (names_of g v).posted = b.handles.marks.posted in omega (arith, same);
     runs = λ tells page_of_stamp tree at. with_none g now page_of_stamp tree (runs_now tells page_of_stamp tree at);
-    trees = λ told page_of_stamp t at. goes_as g v now page_of_stamp t (with_none g now page_of_stamp t.running (runs_now told.tells page_of_stamp t.running at.runs)) (stands_on page_of_stamp t told.tells (told_before told) at.stands) at.committed;
+    trees = λ told page_of_stamp t at. goes_as g v now page_of_stamp t (with_none g now page_of_stamp t.running (runs_now told.tells page_of_stamp t.running at.runs)) (stands_on page_of_stamp t told.tells (told_before told) at.stands) at.committed at.frozen;
     left = λ told page_of_stamp t y same at. record {
       later = let k = kept.clock in omega (arith, k);
       each = λ m c left. inl (kept.left told.tells m c left);

@@ -1,9 +1,10 @@
 -- A core stands on once its transactions are written, or a write or a read ended that.
 use Rattle.std.proofs.Common.{◌≡◌, ◌⊎◌, inl, inr, ⊎_elim, ℕ, ◌+◌, ◌*◌, ◌<◌, ◌≤◌, ◌^◌, ◌==◌, ◌&&◌, nat_le, true, false, List, length, Option, Some, None, sym, ap, subst, ◌∙◌, arith}
 use Rattle.std.specs.Prelude.{IfSome}
-use Rattle.std.proofs.lemmas.Bool.{and_parts, cases_Bool, cases_lt, cond-false, cond-true, eqb-true, le-leb, leb-true}
+use Rattle.std.proofs.lemmas.Bool.{and_parts, cases_Bool, cases_lt, cond-false, cond-true, eqb-true, le-leb, leb-true, true≢false}
 use Rattle.nl_field.specs.CrashStates.{Rose, saturated, top}
 use Rattle.nl_field.specs.declared.answers.VirtualWrite.{VirtualWrite}
+use Rattle.nl_field.specs.declared.answers.VirtualWrite.TheVariants as write
 use Rattle.nl_field.specs.SuperPage.{super_bytes}
 use Rattle.nl_field.specs.PointerItems.{PointerItems}
 use Rattle.nl_field.specs.declared.shape.Shape.{Shape}
@@ -17,30 +18,34 @@ use Rattle.nl_iface.specs.declared.Callback.{Callback}
 use Rattle.nl_iface.specs.declared.counts.Counts.{Ghosts}
 use Rattle.nl_inode.specs.FreeLaws.{NodesAreFree, PoolIsFree, UsesAddress}
 use Rattle.nl_inode.specs.Nodes.{Spaces}
-use Rattle.nl_journal.specs.Progress.{HasNumber, Progress, begun, raised}
+use Rattle.nl_journal.specs.Progress.{HasNumber, Progress, begun, raised, units_left}
+use Rattle.nl_journal.specs.declared.answers.Phase.{Phase}
+use Rattle.nl_journal.proofs.Finishing.{header_units}
 use Rattle.nl_meta.specs.Committed.{VirtualMap}
 use Rattle.nl_journal.proofs.CommitSteps.{begun_header, begun_none}
-use Rattle.nl_meta.specs.Pages.{Frozen, Pages}
+use Rattle.nl_meta.specs.Pages.{Frozen, Pages, dirty_pages}
 use Rattle.nl_meta.specs.PointerLists.{tagged_in}
 use Rattle.nl_meta_running.specs.Running.{IsNeeded}
 use Rattle.nl_meta_running.proofs.Holds.{bounds-of}
 use Rattle.nl_meta_running.proofs.SameNeeded.{node-from, node-to}
 use Rattle.nl_journal_commit.specs.Committing.{ChangesAt, EarlierAt}
-use Rattle.nl_journal_commit.specs.Counting.{record_of}
+use Rattle.nl_journal_commit.specs.Completing.{AwaitsCommitPage, Completes, IsDecided}
+use Rattle.nl_journal_commit.specs.Counting.{record_of, with_frozen}
 use Rattle.nl_journal_commit.specs.Holding.{running_holders}
-use Rattle.nl_journal_commit.specs.Standing.{IsJournaled}
+use Rattle.nl_journal_commit.specs.Standing.{CanFreeze, IsJournaled}
 use Rattle.nl_journal_commit.proofs.Standing.{super_page_stands}
-use Rattle.nl_spec_commits.specs.Held.{IsHeldVolume}
+use Rattle.nl_spec_commits.specs.Held.{IsHeldVolume, leaving_after}
 use Rattle.nl_spec_commits.specs.SettlingLaws.{JournalIsObservable}
 use Rattle.nl_spec_commits.specs.Standing.{IsFirm}
-use Rattle.nl_spec_commits.proofs.Freezing.{super_pages_hold}
+use Rattle.nl_spec_commits.proofs.Freezing.{freeze_opens, super_pages_hold}
 use Rattle.nl_spec_commits.proofs.Holding.{commit_keeps_held}
 use Rattle.nl_spec_commits.proofs.Kept.{tagged_same}
 use Rattle.nl_spec_commits.specs.TreeLaws.{last_commit_moment}
 use Rattle.nl_core.specs.Core.{CanWrite, FreeAreUnused, HasSpace, IsCore, IsPhysical, begun_of, names_of, running_of}
-use Rattle.nl_core.specs.Goes.{TurnsReadOnly}
+use Rattle.nl_core.specs.Goes.{CommitsOnward, TurnsReadOnly}
 use Rattle.nl_core.specs.Writing.{WritesAll, counted_pages, stopped_by, stopped_on, stored_count}
 use Rattle.nl_core.specs.declared.state.Core.{Core}
+use Rattle.nl_core.proofs.Counts.{Awaits, Froze, counts_then, idle_left, idle_shut, left_of, onward_by}
 
 -- ---- the first write that failed
 
@@ -143,7 +148,7 @@ module _ {D : Type 0} (g : Ghosts D) (v w : Core D) (answer : VirtualWrite) (b :
   pub journaled_counted : IsJournaled g v.device v.journal pages_counted
   journaled_counted = (super_page_stands g v.device v.journal v.meta (super_bytes (record_of v.shape (stored_count v))) volume core.journaled).journaled
 
-  pub held_counted : IsHeldVolume g v.device v.journal pages_counted (carried v.flight) v.freeing.items
+  pub held_counted : IsHeldVolume g v.device v.journal pages_counted (carried v.flight) v.freeing.items v.leaving
   held_counted =
       let h = core.held in
       record {
@@ -152,6 +157,7 @@ module _ {D : Type 0} (g : Ghosts D) (v w : Core D) (answer : VirtualWrite) (b :
         in_flight = h.in_flight;
         awaits = h.awaits;
         none_due = h.none_due;
+        gives_up = h.gives_up;
         holds = h.holds;
         committed = h.committed;
       }
@@ -159,11 +165,12 @@ module _ {D : Type 0} (g : Ghosts D) (v w : Core D) (answer : VirtualWrite) (b :
   same_shape : g.shape w.device ≡ g.shape v.device
   same_shape = b.passes.named.same_shape
 
-  pub written_held : IsHeldVolume g w.device w.journal w.meta (carried w.flight) w.freeing.items
+  pub written_held : IsHeldVolume g w.device w.journal w.meta (carried w.flight) w.freeing.items w.leaving
   written_held =
-      subst (λ (f : List InFlight). IsHeldVolume g w.device w.journal w.meta (carried f) w.freeing.items) (sym b.rest.flight)
-      (subst (λ (f : PointerItems). IsHeldVolume g w.device w.journal w.meta (carried v.flight) f.items) (sym b.rest.freeing)
-      (commit_keeps_held g answer b.earlier b.decided v.device w.device v.journal w.journal pages_counted w.meta (carried v.flight) v.freeing.items volume journaled_counted held_counted b.commits.parts))
+      subst (λ n. IsHeldVolume g w.device w.journal w.meta (carried w.flight) w.freeing.items n) (sym b.leaving)
+      (subst (λ (f : List InFlight). IsHeldVolume g w.device w.journal w.meta (carried f) w.freeing.items (leaving_after b.froze b.earlier b.decided (length v.freeing.items) v.leaving)) (sym b.rest.flight)
+      (subst (λ (f : PointerItems). IsHeldVolume g w.device w.journal w.meta (carried v.flight) f.items (leaving_after b.froze b.earlier b.decided (length v.freeing.items) v.leaving)) (sym b.rest.freeing)
+      (commit_keeps_held g answer b.froze b.earlier b.decided v.device w.device v.journal w.journal pages_counted w.meta (carried v.flight) v.freeing.items _ volume journaled_counted held_counted b.commits.parts)))
 
   -- numbers of transactions do not fall
   pub later_number : begun_of v ≤ begun_of w
@@ -171,18 +178,72 @@ module _ {D : Type 0} (g : Ghosts D) (v w : Core D) (answer : VirtualWrite) (b :
       (λ y.
       let first = b.commits.parts.first.finishes.begun_stays in
       let same : begun_of w ≡ begun b.commits.parts.halfway (length b.commits.parts.rest.frozen.addresses) =
-      ap (λ (q : Progress). begun q (length w.meta.frozen.addresses)) y.2 ∙ ap (λ (m : Pages). begun b.commits.parts.halfway (length m.frozen.addresses)) y.3 in
+      ap (λ (q : Progress). begun q (length w.meta.frozen.addresses)) y.3 ∙ ap (λ (m : Pages). begun b.commits.parts.halfway (length m.frozen.addresses)) y.4 in
       omega (arith, first, same))
       (λ y.
       let first = b.commits.parts.first.finishes.begun_stays in
-      let second = y.2.finishes.begun_stays in
+      let second = y.3.finishes.begun_stays in
       let q = b.commits.parts.halfway in
-      let can = y.1 in
+      let can = y.2 in
       let starts : begun q (length b.commits.parts.rest.dirty) ≡ raised q.number = begun_header q.phase q.number (length b.commits.parts.rest.dirty) can.header can.dirty.pages.some in
       let before : begun q (length b.commits.parts.rest.frozen.addresses) ≡ q.number = begun_none q.phase q.number (length b.commits.parts.rest.frozen.addresses) can.header (ap (λ (f : Frozen). length f.addresses) can.none) in
       let most = few in
       omega (arith, first, second, starts, before, most))
       b.commits.parts.second
+
+  -- ---- the counts of calls
+
+  mid_shut : CanFreeze (g.shape b.commits.parts.between).vaddrs b.commits.parts.halfway b.commits.parts.rest → AwaitsCommitPage b.commits.parts.halfway b.commits.parts.rest.frozen → ⊥
+  mid_shut can more = idle_shut b.commits.parts.halfway b.commits.parts.rest.frozen can.header can.none more
+
+  still_open : (o : Option ℕ) → o ≡ None → IsDecided o v.journal b.commits.parts.halfway v.meta.frozen b.commits.parts.rest.frozen → Awaits v → AwaitsCommitPage b.commits.parts.halfway b.commits.parts.rest.frozen
+  still_open o is d more = subst (λ (x : Option ℕ). IsDecided x v.journal b.commits.parts.halfway v.meta.frozen b.commits.parts.rest.frozen) is d more
+
+  -- the dirty pages were not frozen
+  froze_off : b.froze ≡ false → b.decided ≡ None → w.journal ≡ b.commits.parts.halfway → w.meta ≡ b.commits.parts.rest → Froze v w b.froze b.earlier b.decided
+  froze_off off none journal meta = record {
+    stays = λ f e more. subst (λ (q : Progress). AwaitsCommitPage q w.meta.frozen) (sym journal) (subst (λ (m : Pages). AwaitsCommitPage b.commits.parts.halfway m.frozen) (sym meta) (still_open b.earlier e b.commits.parts.first_decided more));
+    never = λ f. none;
+    opens = λ on. absurd (true≢false (sym on ∙ off));
+    fewer = λ f. let low = b.commits.parts.first.finishes.fewer in let same = left_is in omega (arith, low, same);
+    pages = λ f. ⊎_elim
+        (λ stays. inl (ap (λ (m : Pages). length m.frozen.addresses) meta ∙ ap (λ (x : Frozen). length x.addresses) stays))
+        (λ gone. inr (left_is ∙ idle_left b.commits.parts.halfway b.commits.parts.rest.frozen gone.0 gone.1)) b.commits.parts.first.finishes.frozen;
+    was_shut = λ on. absurd (true≢false (sym on ∙ off));
+    few = λ on. absurd (true≢false (sym on ∙ off));
+  }
+    where
+      left_is : left_of w ≡ units_left b.commits.parts.halfway.phase (length b.commits.parts.rest.frozen.addresses)
+      left_is = ap (λ (q : Progress). units_left q.phase (length w.meta.frozen.addresses)) journal ∙ ap (λ (m : Pages). units_left b.commits.parts.halfway.phase (length m.frozen.addresses)) meta
+
+  -- they were
+  froze_on : b.froze ≡ true → CanFreeze (g.shape b.commits.parts.between).vaddrs b.commits.parts.halfway b.commits.parts.rest
+      → Completes g (answer ≡ write.Done) b.commits.parts.between b.commits.parts.halfway (with_frozen b.commits.parts.rest) w.device w.journal w.meta
+      → IsDecided b.decided b.commits.parts.halfway w.journal (dirty_pages b.commits.parts.rest) w.meta.frozen → Froze v w b.froze b.earlier b.decided
+  froze_on on can second decided = record {
+    stays = λ off. absurd (true≢false (sym on ∙ off));
+    never = λ off. absurd (true≢false (sym on ∙ off));
+    opens = λ f none. subst (λ (o : Option ℕ). IsDecided o b.commits.parts.halfway w.journal (dirty_pages b.commits.parts.rest) w.meta.frozen) none decided
+        (freeze_opens (g.shape b.commits.parts.between).vaddrs b.commits.parts.halfway b.commits.parts.rest can);
+    fewer = λ off. absurd (true≢false (sym on ∙ off));
+    pages = λ off. absurd (true≢false (sym on ∙ off));
+    was_shut = λ f e more. mid_shut can (still_open b.earlier e b.commits.parts.first_decided more);
+    few = λ f. let low = second.finishes.fewer in
+        let all = first_units in
+        let n = can.dirty.pages.few in ⊎_elim
+        (λ stays. let size = ap (λ (x : Frozen). length x.addresses) stays in omega (arith, low, all, n, size))
+        (λ gone. let none = idle_left w.journal w.meta.frozen gone.0 gone.1 in omega (arith, none))
+        second.finishes.frozen;
+  }
+    where
+      first_units : units_left b.commits.parts.halfway.phase (length b.commits.parts.rest.dirty) ≡ 2 * length b.commits.parts.rest.dirty + 2
+      first_units = ap (λ (x : Phase). units_left x (length b.commits.parts.rest.dirty)) can.header ∙ header_units (length b.commits.parts.rest.dirty) can.dirty.pages.some
+
+  froze_is : Froze v w b.froze b.earlier b.decided
+  froze_is = ⊎_elim (λ y. froze_off y.0 y.5 y.3 y.4) (λ y. froze_on y.0 y.2 y.3 y.4) b.commits.parts.second
+
+  pub written_onward : CommitsOnward v w
+  written_onward = onward_by v w core.counts b.rest.count b.froze b.earlier b.decided b.committed b.frozen froze_is
 
   still_marked : HandledUpTo (names_of g w) (begun_of w + 1)
   still_marked c n has at =
@@ -250,6 +311,7 @@ module _ {D : Type 0} (g : Ghosts D) (v w : Core D) (answer : VirtualWrite) (b :
     journaled = b.stands.journaled;
     free = has_free_on g v w same_shape volume b.stands.needed b.rest.nodes core.free;
     held = written_held;
+    counts = counts_then v w core.counts b.rest.count b.froze b.earlier b.decided b.committed b.frozen b.leaving froze_is;
     flight = subst IsFlight (sym b.rest.flight) core.flight;
     named = λ x has. subst (λ (h : Shape). IsPhysical h x.1.name) (sym same_shape) (core.named x (subst (λ (f : List InFlight). Has (carried f) x) b.rest.flight has));
     stamped = λ x has. core.stamped x (subst (λ (f : List InFlight). Has (carried f) x) b.rest.flight has);

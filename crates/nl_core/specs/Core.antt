@@ -16,6 +16,7 @@ use Rattle.nl_inode.specs.FreeLaws.{NodesAreFree, PoolIsFree}
 use Rattle.nl_journal.specs.Progress.{begun}
 use Rattle.nl_meta.specs.Committed.{VirtualMap}
 use Rattle.nl_meta_running.specs.Running.{running_on}
+use Rattle.nl_journal_commit.specs.Completing.{AwaitsCommitPage}
 use Rattle.nl_journal_commit.specs.Holding.{running_holders}
 use Rattle.nl_journal_commit.specs.Standing.{IsJournaled}
 use Rattle.nl_spec_commits.specs.Held.{IsHeldVolume}
@@ -65,6 +66,14 @@ pub record HasSpace {D : Type 0} (g : Ghosts D) (v : Core D) : Type 0 where
 abbrev pub IsPhysical : Shape → ℕ → Type 0
 IsPhysical shape name = (first_physical shape ≤ name) × (name < shape.blocks * shape.pages)
 
+-- The counts of calls that are committed, that are once the frozen transaction is, and that were answered do not fall in this order. Where no
+-- commit page is to be written, the first two are the same, and no transaction gives up a page.
+pub record CountsInOrder {D : Type 0} (v : Core D) : Type 0 where
+  pub later : v.committed ≤ v.frozen
+  pub latest : v.frozen ≤ v.count
+  pub few : v.count ≤ top
+  pub shut : (AwaitsCommitPage v.journal v.meta.frozen → ⊥) → (v.frozen ≡ v.committed) × (v.leaving ≡ 0)
+
 pub record IsCore {D : Type 0} (g : Ghosts D) (v : Core D) : Type 0 where
   -- the device is formed
   pub formed : g.formed v.device
@@ -72,8 +81,9 @@ pub record IsCore {D : Type 0} (g : Ghosts D) (v : Core D) : Type 0 where
   -- the metadata runs, and its journal is in order
   pub journaled : IsJournaled g v.device v.journal v.meta
   pub free : FreeAreUnused g v
-  -- each live page is held once, and what is committed keeps its pages
-  pub held : IsHeldVolume g v.device v.journal v.meta (carried v.flight) v.freeing.items
+  -- each live page is held once, and what is committed or frozen keeps its pages
+  pub held : IsHeldVolume g v.device v.journal v.meta (carried v.flight) v.freeing.items v.leaving
+  pub counts : CountsInOrder v
   -- the pages in flight have names of the physical segment, and write sequence numbers that are spelled
   pub flight : IsFlight v.flight
   pub named : (x : Tag × Pointer) → Has (carried v.flight) x → IsPhysical (g.shape v.device) x.1.name

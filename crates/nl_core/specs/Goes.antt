@@ -15,6 +15,7 @@ use Rattle.nl_spec_commits.specs.TreeLaws.{OpensFrom}
 use Rattle.nl_spec_commits.specs.Trees.{Prefix, Trees, prefixes}
 use Rattle.nl_core.specs.Core.{begun_of, names_of, running_of}
 use Rattle.nl_core.specs.Trees.{CoreRepresentsTree, CoreRepresents, CoreIsObservable}
+use Rattle.nl_core.specs.Units.{units_for}
 use Rattle.nl_core.specs.declared.state.Core.{Core}
 
 -- The core stands for the same tree of all calls. What is committed is what was committed before or frozen, or all calls; each page that
@@ -48,9 +49,14 @@ pub record TurnsReadOnly {D : Type 0} (g : Ghosts D) (old new : Core D) : Type 0
 abbrev pub PaidSince : {D : Type 0} → Ghosts D → ℕ → ℕ → Core D → Type 0
 PaidSince g clock number v = NumberPaid clock number (g.clock v.device) v.journal.number
 
+-- How many calls are committed does not fall, and for no sync whose goal is among the calls so far are more units left than before.
+pub record CommitsOnward {D : Type 0} (old new : Core D) : Type 0 where
+  pub committed : old.committed ≤ new.committed
+  pub units : (goal : ℕ) → goal ≤ old.count → units_for new goal ≤ units_for old goal
+
 -- The core is the volume that it was, but for what a call does beside: the same calls were answered, and nodes have other names of pages at
 -- most. Numbers and counts do not fall, nor does the last number that a callback was given; the number of the last transaction rises by no
--- more than the clock does. What is committed changes with a commit page that was finished since. Where the medium tells its contents, it
+-- more than the clock does. What is committed changes with a commit page that was finished since, and does not fall. Where the medium tells its contents, it
 -- runs on as the tree as which it ran. Where counts have not ended either, it goes on to stand for the trees for which it stood, and what a
 -- stop leaves opens as one of them, from the moment of the last commit page on as none earlier than what that one committed.
 pub record PreservesVolume {D : Type 0} (g : Ghosts D) (most : ℕ) (old new : Core D) : Type 0 where
@@ -64,6 +70,7 @@ pub record PreservesVolume {D : Type 0} (g : Ghosts D) (most : ℕ) (old new : C
   pub clock : g.clock old.device ≤ g.clock new.device
   pub moment : ((new.moment ≡ old.moment) × (new.committed ≡ old.committed))
       ⊎ (Earlier (g.clock old.device) new.moment × (g.clock old.device ≤ new.moment))
+  pub onward : CommitsOnward old new
   pub stops : TurnsReadOnly g old new
   pub stamps : StampsRise g most old.device new.device
   pub posted : (names_of g old).posted ≤ (names_of g new).posted

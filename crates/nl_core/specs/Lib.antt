@@ -11,4 +11,5 @@ pub mod Lines
 pub mod Programming
 pub mod Rounds
 pub mod Trees
+pub mod Units
 pub mod Writing

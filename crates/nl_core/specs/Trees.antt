@@ -16,11 +16,12 @@ pub record CoreRepresentsTree {D : Type 0} (g : Ghosts D) (v : Core D) (page_of_
   pub shows : ShowsPages (names_of g v) (g.bytes v.device) page_of_stamp
   pub given : (stamp : ℕ) (page : PageOfStamp) → page_of_stamp stamp ≡ Some page → stamp < g.next_stamp v.device
 
--- The core stands for these trees, and runs as the last of them. The count of what is committed is the one that is kept.
+-- The core stands for these trees, and runs as the last of them. The counts of what is committed and of what is frozen are those that are kept.
 pub record CoreRepresents {D : Type 0} (g : Ghosts D) (v : Core D) (page_of_stamp : ℕ → Option PageOfStamp) (t : Trees) : Type 0 where
   pub stands : RepresentsTrees g v.device v.journal v.meta v.count page_of_stamp t
   pub runs : CoreRepresentsTree g v page_of_stamp t.running
   pub committed : t.committed.0 ≡ v.committed
+  pub frozen : t.frozen.0 ≡ v.frozen
 
 -- The medium tells its contents, and counts of calls, numbers of transactions and moments have not ended.
 pub record CoreIsObservable {D : Type 0} (g : Ghosts D) (v : Core D) : Type 0 where

@@ -1,10 +1,8 @@
 -- The two parts of a commit: the transactions are written, and what they gave up is freed and acknowledged.
-use Rattle.std.specs.Prelude.{◌≡◌, ℕ, ◌+◌, ◌-◌, ◌≤◌, ◌^◌, ◌==◌, ◌&&◌, nat_le, min, if◌then◌else◌, length, Option, Some, None, IfSome, option_and_then, option_map, unwrap_or, []}
+use Rattle.std.specs.Prelude.{◌≡◌, ℕ, ◌+◌, ◌-◌, ◌≤◌, ◌^◌, ◌==◌, ◌&&◌, nat_le, min, Bool, if◌then◌else◌, length, take, drop, Option, Some, None, IfSome}
 use Rattle.nl_field.specs.CrashStates.{saturated}
-use Rattle.nl_field.specs.SuperPage.{super_of}
 use Rattle.nl_field.specs.declared.answers.VirtualWrite.{VirtualWrite}
 use Rattle.nl_field.specs.declared.answers.VirtualWrite.TheVariants as write
-use Rattle.nl_field.specs.declared.super_page.SuperRec.{SuperRec}
 use Rattle.nl_iface.specs.Answers.{LosesStamp}
 use Rattle.nl_iface.specs.Calls.{CallCounted, KeepsMedium}
 use Rattle.nl_iface.specs.Moves.{Acknowledges}
@@ -14,11 +12,12 @@ use Rattle.nl_iface.specs.declared.counts.Counts.{Ghosts}
 use Rattle.nl_journal.specs.Left.{CommitWrites}
 use Rattle.nl_journal.specs.Passes.{ChangesAddressesOnly}
 use Rattle.nl_journal.specs.Progress.{HasNumber}
-use Rattle.nl_meta.specs.Pages.{Pages, frozen_at}
+use Rattle.nl_meta.specs.Pages.{Pages}
 use Rattle.nl_journal_commit.specs.Committing.{ChangesAt, CommitsWhole, EarlierAt}
 use Rattle.nl_journal_commit.specs.Counting.{with_count}
 use Rattle.nl_journal_commit.specs.Freeing.{FreesEach}
 use Rattle.nl_journal_commit.specs.Standing.{PreservesGraph}
+use Rattle.nl_spec_commits.specs.Held.{leaving_after}
 use Rattle.nl_spec_commits.specs.TreeLaws.{last_commit_moment}
 use Rattle.nl_core.specs.Core.{names_of}
 use Rattle.nl_core.specs.declared.state.Core.{Core}
@@ -34,10 +33,6 @@ stored_count v = min v.count last_count
 abbrev pub counted_pages : {D : Type 0} → Core D → Pages
 counted_pages v = with_count v.shape (stored_count v) v.meta
 
--- the count of calls in the frozen super page, where there is one
-abbrev pub frozen_count : {D : Type 0} → Core D → ℕ
-frozen_count v = unwrap_or (option_map (λ (rec : SuperRec). rec.count) (option_and_then super_of (frozen_at v.meta 0))) v.committed
-
 -- what is committed once these commit pages were finished: that of the frozen transaction, and that of all calls
 abbrev pub committed_by : ℕ → ℕ → ℕ → Option ℕ → Option ℕ → ℕ
 committed_by before frozen count earlier (Some moment) = count
@@ -45,7 +40,20 @@ committed_by before frozen count (Some moment) None = frozen
 committed_by before frozen count None None = before
 
 abbrev pub committed_count : {D : Type 0} → Core D → Option ℕ → Option ℕ → ℕ
-committed_count v earlier decided = committed_by v.committed (frozen_count v) v.count earlier decided
+committed_count v earlier decided = committed_by v.committed v.frozen v.count earlier decided
+
+-- what is committed once the frozen transaction is: all calls where the dirty pages were frozen, and else what was
+abbrev pub frozen_then : {D : Type 0} → Core D → Bool → ℕ
+frozen_then v froze = if froze then v.count else v.frozen
+
+-- the core with what is known of a commit that froze the dirty pages, or not, and finished these commit pages
+abbrev pub noted : {D : Type 0} → Core D → Bool → Option ℕ → Option ℕ → Core D
+noted v froze earlier decided = record v {
+  leaving = leaving_after froze earlier decided (length v.freeing.items) v.leaving;
+  committed = committed_count v earlier decided;
+  frozen = frozen_then v froze;
+  moment = last_commit_moment v.moment earlier decided;
+}
 
 -- the sum of both fault counts once a write failed
 abbrev pub stopped_by : ℕ → ℕ → ℕ → ℕ → ℕ
@@ -65,14 +73,17 @@ pub record KeepsRestOfCore {D : Type 0} (old new : Core D) : Type 0 where
 
 -- The frozen transaction was completed, and that of the dirty pages written; or a write or a read ended that.
 pub record WritesAll {D : Type 0} (g : Ghosts D) (old new : Core D) (answer : VirtualWrite) : Type 0 where
+  pub froze : Bool
   pub earlier : Option ℕ
   pub decided : Option ℕ
   pub rest : KeepsRestOfCore old new
   pub committed : new.committed ≡ committed_count old earlier decided
+  pub frozen : new.frozen ≡ frozen_then old froze
+  pub leaving : new.leaving ≡ leaving_after froze earlier decided (length old.freeing.items) old.leaving
   pub moment : new.moment ≡ last_commit_moment old.moment earlier decided
   pub stopped : new.stopped ≡ stopped_on g (g.write_faults old.device) old new
   pub stands : PreservesGraph g old.device old.meta new.device new.journal new.meta
-  pub commits : CommitsWhole g (answer ≡ write.Done) earlier decided old.device old.journal (counted_pages old) new.device new.journal new.meta
+  pub commits : CommitsWhole g (answer ≡ write.Done) froze earlier decided old.device old.journal (counted_pages old) new.device new.journal new.meta
   pub earlier_at : IfSome earlier (EarlierAt g old.device new.device old.journal new.journal (counted_pages old) new.meta)
   pub decided_at : IfSome decided (ChangesAt g old.device new.device old.journal new.journal (counted_pages old) new.meta)
   pub writes : g.tells → HasNumber new.journal (length new.meta.frozen.addresses)
@@ -82,17 +93,18 @@ pub record WritesAll {D : Type 0} (g : Ghosts D) (old new : Core D) (answer : Vi
   pub clock : g.clock old.device ≤ g.clock new.device
   pub faults : CallCounted g (answer ≡ write.Fault) old.device new.device
 
--- What awaited its free is freed, and callbacks are acknowledged that were handled under a mark up to this one.
-pub record Settles {D : Type 0} (g : Ghosts D) (mark : ℕ) (old new : Core D) : Type 0 where
+-- The first of the pages that await their free are freed, so many, and callbacks are acknowledged that were handled under a mark up to this
+-- one. No transaction gives up a page then.
+pub record Settles {D : Type 0} (g : Ghosts D) (due mark : ℕ) (old new : Core D) : Type 0 where
   pub between : D
-  pub frees : FreesEach old.freeing.items (names_of g old) (g.names between)
+  pub frees : FreesEach (take due old.freeing.items) (names_of g old) (g.names between)
   pub first_kept : KeepsMedium g old.device between
   pub acknowledges : Acknowledges mark (g.names between) (names_of g new)
   pub then_kept : KeepsMedium g between new.device
   pub read_faults : g.read_faults new.device ≡ g.read_faults old.device
-  pub items : new.freeing.items ≡ []
-  pub room : new.freeing.room ≡ old.freeing.room + length old.freeing.items
-  pub others : new ≡ record old { device = new.device; freeing = new.freeing }
+  pub items : new.freeing.items ≡ drop due old.freeing.items
+  pub room : new.freeing.room ≡ old.freeing.room + length (take due old.freeing.items)
+  pub others : new ≡ record old { device = new.device; freeing = new.freeing; leaving = 0 }
 
 -- The tables of a device before it: old names and callbacks are in order, and no old name stands twice.
 pub record HasTable {D : Type 0} (g : Ghosts D) (s : D) : Type 0 where

@@ -7,8 +7,7 @@ ghost use Rattle.nl_core.specs.Calls.{CommitsByAnswer, FailureIsCounted};
 ghost use Rattle.nl_core.specs.Core.{IsCore};
 ghost use Rattle.nl_core.specs.Goes.{PreservesVolume};
 ghost use Rattle.nl_meta.specs.Pages.{IsPages};
-ghost use Rattle.nl_core.specs.Writing.{HasTable, Settles, WritesAll, committed_by};
-ghost use Rattle.nl_spec_commits.specs.TreeLaws.{last_commit_moment};
+ghost use Rattle.nl_core.specs.Writing.{HasTable, Settles, WritesAll, noted};
 
 use crate::state::Core;
 use nl_field::VirtualWrite;
@@ -18,13 +17,13 @@ use nl_journal_commit::{Committed, commit, free_first};
 use nl_spec_commits::laws::device_stands;
 
 // The greatest count of calls and the greatest number of a transaction that are spelled.
-const LAST: u64 = (1 << 63) - 1;
+pub(crate) const LAST: u64 = (1 << 63) - 1;
 
 impl<D: MovingPages> Core<D> {
     /// Makes all calls so far take effect at once. Once that is done, the pages are freed that awaited it, and the callbacks are
-    /// acknowledged that were handled before. A stop within leaves what was committed before, or was frozen, or all calls; from the moment
-    /// of the last commit page on nothing earlier than what that one committed. After `Lost` and `Fault` the next commit goes on from
-    /// there.
+    /// acknowledged that were handled before. What is frozen is finished first, with its pages copied home. A stop within leaves what was
+    /// committed before, or was frozen, or all calls; from the moment of the last commit page on nothing earlier than what that one
+    /// committed. After `Lost` and `Fault` the next commit goes on from there.
     pub fn commit(&mut self) -> Committing
         requires core { IsCore D.Counts self.old }
         requires writes { self.old.stopped ≡ 0 }
@@ -37,7 +36,8 @@ impl<D: MovingPages> Core<D> {
         let mark = self.mark();
         match self.write_all() {
             VirtualWrite::Done => {
-                self.settle(mark);
+                let due = self.freeing.len();
+                self.settle(due, mark);
                 Committing::Done(mark.min(LAST))
             }
             VirtualWrite::Lost { wanted, found } => Committing::Lost { wanted, found },
@@ -58,7 +58,6 @@ impl<D: MovingPages> Core<D> {
     {
         self.meta.stands();
         device_stands(&self.device);
-        let frozen = self.frozen_count();
         let faults = self.device.write_faults();
         let count = self.count.min(LAST);
         let done = commit(
@@ -70,37 +69,45 @@ impl<D: MovingPages> Core<D> {
         );
         device_stands(&self.device);
         self.note_fault(faults);
-        self.note_moments(frozen, &done);
+        self.note_commit(&done);
         done.answer
     }
 
-    // The counts and the moments of the commit pages that were finished.
-    fn note_moments(&mut self, frozen: u64, done: &Committed)
-        ensures { self.new ≡ record self.old { committed = committed_by self.old.committed frozen self.old.count done.now.earlier done.now.decided; moment = last_commit_moment self.old.moment done.now.earlier done.now.decided } }
+    // The counts and the moments of the commit pages that were finished, and what is frozen then and gives up.
+    fn note_commit(&mut self, done: &Committed)
+        ensures { self.new ≡ noted self.old done.now.froze done.now.earlier done.now.decided }
     {
         if let Some(moment) = done.earlier {
-            self.committed = frozen;
+            self.committed = self.frozen;
             self.moment = moment;
+            self.leaving = 0;
+        }
+        if done.froze {
+            self.frozen = self.count;
+            self.leaving = self.freeing.len();
         }
         if let Some(moment) = done.decided {
             self.committed = self.count;
             self.moment = moment;
+            self.leaving = 0;
         }
     }
 
-    // What awaited a commit is freed after it, and what was handled before is acknowledged.
-    fn settle(&mut self, mark: u64)
+    // What awaited a commit page is freed after it, the first so many, and what was handled up to this mark is acknowledged. No transaction
+    // gives up a page then.
+    pub(crate) fn settle(&mut self, due: u32, mark: u64)
         requires formed { D.formed self.old.device }
         ensures formed { D.formed self.new.device }
         ensures table { HasTable D.Counts self.old.device }
         ensures stores { D.tells → StoresPages D.Counts self.new.device }
         ensures numbers { IsNames (D.shape self.new.device) (D.next_stamp self.new.device) (D.names self.new.device) }
-        ensures settled { Settles D.Counts mark self.old self.new }
+        ensures settled { Settles D.Counts due mark self.old self.new }
     {
         device_stands(&self.device);
-        let due = self.freeing.len();
+        let due = due.min(self.freeing.len());
         free_first(&mut self.device, &mut self.freeing, due);
         self.device.acknowledge(mark);
+        self.leaving = 0;
         device_stands(&self.device);
     }
 }

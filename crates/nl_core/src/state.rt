@@ -1,11 +1,10 @@
 //! The state of a core: a device, the metadata that runs over it, the pages in flight, and the pointers that await their free.
 ghost use Rattle.std.specs.Prelude.{◌≡◌, ◌+◌, ◌≤◌, ◌^◌, nat_le};
 ghost use Rattle.nl_field.specs.CrashStates.{saturated};
-ghost use Rattle.nl_meta.specs.Pages.{is_frozen};
 ghost use Rattle.nl_core.specs.Core.{begun_of};
-ghost use Rattle.nl_core.specs.Writing.{frozen_count, stopped_on};
+ghost use Rattle.nl_core.specs.Writing.{stopped_on};
 
-use nl_field::{PointerList, Shape, SuperRec};
+use nl_field::{PointerList, Shape};
 use nl_flight::Flight;
 use nl_iface::MovingPages;
 use nl_inode::Nodes;
@@ -23,10 +22,14 @@ pub struct Core<D: MovingPages> {
     pub flight: Flight,
     /// The pointers that await their free, with room for every page of the physical segment.
     pub freeing: PointerList,
+    /// How many of them, from the front on, the frozen transaction gives up: its commit page frees these alone.
+    pub leaving: u32,
     /// How many calls the volume has answered.
     pub count: u64,
     /// After how many calls the metadata is committed.
     pub committed: u64,
+    /// After how many calls it will be once the commit page of the frozen transaction is written, and the same where none is to be.
+    pub frozen: u64,
     /// The clock as the commit page of the last transaction was finished, or at the opening where none was committed since.
     pub moment: u64,
     /// The sum of both fault counts after the failure that made the volume read-only, 0 before it.
@@ -58,30 +61,6 @@ impl<D: MovingPages> Core<D> {
         ensures most { begun_of self.now ≤ 2 ^ 63 }
     {
         self.journal.begun(&self.meta) + 1
-    }
-
-    // The count of calls that the frozen super page has, where there is one.
-    pub(crate) fn frozen_count(&self) -> u64
-        ensures count { result ≡ frozen_count self.now }
-    {
-        if !is_super_frozen(&self.meta) {
-            return self.committed;
-        }
-        match SuperRec::of(self.meta.frozen_page(0), 0) {
-            Some(rec) => rec.count,
-            None => self.committed,
-        }
-    }
-}
-
-// Whether the super page is one of the frozen pages.
-fn is_super_frozen(meta: &Meta) -> bool
-    ensures { result ≡ is_frozen meta.now 0 }
-{
-    meta.stands();
-    match meta.frozen(0) {
-        Some(first) => first == 0,
-        None => false,
     }
 }
 

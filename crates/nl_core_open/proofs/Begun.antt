@@ -101,15 +101,17 @@ module _ {M : Type 0} (g : Ghosts (Device M)) (s t : Device M) (seen : List Seen
     nodes = w.nodes;
     flight = nothing;
     freeing = freeing;
+    leaving = 0;
     count = w.count;
     committed = w.count;
+    frozen = w.count;
     moment = g.clock s;
     stopped = stopped_by (g.write_faults s);
   }
 
   -- it is the core that is put together so
   pub made : (d : Device M) (shape : Shape) (flight : List InFlight) (moment stopped : ℕ) → shape ≡ g.shape s → flight ≡ nothing → g.clock s ≡ moment → stopped_by (g.write_faults s) ≡ stopped
-      → core_over d ≡ record { device = d; shape = shape; journal = w.journal; meta = w.meta; nodes = w.nodes; flight = flight; freeing = freeing; count = w.count; committed = w.count; moment = moment; stopped = stopped }
+      → core_over d ≡ record { device = d; shape = shape; journal = w.journal; meta = w.meta; nodes = w.nodes; flight = flight; freeing = freeing; leaving = 0; count = w.count; committed = w.count; frozen = w.count; moment = moment; stopped = stopped }
   made d shape flight moment stopped is_shape is_flight is_moment is_stopped = λ i. record {
     device = d;
     shape = (sym is_shape) i;
@@ -118,8 +120,10 @@ module _ {M : Type 0} (g : Ghosts (Device M)) (s t : Device M) (seen : List Seen
     nodes = w.nodes;
     flight = (sym is_flight) i;
     freeing = freeing;
+    leaving = 0;
     count = w.count;
     committed = w.count;
+    frozen = w.count;
     moment = is_moment i;
     stopped = is_stopped i;
   }
@@ -199,7 +203,7 @@ module _ {M : Type 0} (g : Ghosts (Device M)) (s t : Device M) (seen : List Seen
           ∙ sym (is.same tells v)
           ∙ sym (λ i. running_over (map_bytes (same_shape i) (same_map tells i)) w.meta v)
 
-      held : IsHeldVolume g t w.journal w.meta [] []
+      held : IsHeldVolume g t w.journal w.meta [] [] 0
       held = opening_is_held g t w.journal w.meta w.kept.items place (g.found s) volume_t stands.journaled shut stored_runs table retains opening
 
       pub as_many_pages : length (running_holders g t w.meta) ≡ length w.kept.items
@@ -244,13 +248,14 @@ module _ {M : Type 0} (g : Ghosts (Device M)) (s t : Device M) (seen : List Seen
           by None e some = absurd (let no : ⊥ = cc in no)
           by (Some block) e some = can.spare block e
 
-      pub begun_core : g.formed t → IsCore g (core_over t)
-      begun_core formed = record {
+      pub begun_core : g.formed t → w.count ≤ top → IsCore g (core_over t)
+      begun_core formed few = record {
         formed = formed;
         shape = sym same_shape;
         journaled = stands.journaled;
         free = has_free_on g (core_over s) (core_over t) same_shape volume stands.needed refl free;
-        held = subst (λ (xs : List (Tag × Pointer)). IsHeldVolume g t w.journal w.meta xs freeing.items) (sym nothing_carried) (subst (λ (ps : List Pointer). IsHeldVolume g t w.journal w.meta [] ps) (sym none) held);
+        held = subst (λ (xs : List (Tag × Pointer)). IsHeldVolume g t w.journal w.meta xs freeing.items 0) (sym nothing_carried) (subst (λ (ps : List Pointer). IsHeldVolume g t w.journal w.meta [] ps 0) (sym none) held);
+        counts = record { later = omega arith; latest = omega arith; few = few; shut = λ _. (refl, refl) };
         flight = lines;
         named = λ x has. absurd (subst (λ (xs : List (Tag × Pointer)). Has xs x) nothing_carried has);
         stamped = λ x has. absurd (subst (λ (xs : List (Tag × Pointer)). Has xs x) nothing_carried has);
@@ -318,4 +323,5 @@ module _ {M : Type 0} (g : Ghosts (Device M)) (s t : Device M) (seen : List Seen
                 omega (arith, below, number);
           };
           committed = refl;
+          frozen = refl;
         }

@@ -52,6 +52,7 @@ pub fn begin<M: Nand>(
     kept_can_be_retained();
     a_list_tells_what_can_be_retained();
     lines_stand(&flight);
+    let _count = count_of(&walked);
     let mut device = device;
     device_stands(&device);
     device.retain(&walked.kept);
@@ -73,8 +74,10 @@ pub fn begin<M: Nand>(
         nodes,
         flight,
         freeing,
+        leaving: 0,
         count,
         committed: count,
+        frozen: count,
         moment,
         stopped,
     }
@@ -85,6 +88,13 @@ fn stopped_by(write_faults: u64) -> u64
     ensures { result ≡ stopped_by write_faults }
 {
     if write_faults < u64::MAX { 0 } else { u64::MAX }
+}
+
+// The calls that the walked image counts.
+fn count_of(walked: &Walked) -> u64
+    ensures { result ≡ walked.now.count }
+{
+    walked.count
 }
 
 // The lines in flight are in order.

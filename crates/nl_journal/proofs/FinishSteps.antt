@@ -38,7 +38,7 @@ no_addresses [] is = refl
 no_addresses (x ∷ xs) is = absurd (let no : ⊥ = omega (arith, is) in no)
 
 -- the number and the committed pages after a write: it is the last, or the commit page
-after_one : (phase : Phase) (number count pages : ℕ) (frozen : Frozen) (now base : VirtualMap) → 1 ≤ pages → Agrees count now (aimed phase frozen base)
+pub after_one : (phase : Phase) (number count pages : ℕ) (frozen : Frozen) (now base : VirtualMap) → 1 ≤ pages → Agrees count now (aimed phase frozen base)
     → ((next_number_in phase number ≡ number) × Agrees count now base) ⊎ ((next_number_in phase number ≡ begun_in phase number pages) × Agrees count now (finished phase frozen base))
 after_one Header number count pages frozen now base some same = inl (refl, same)
 after_one (Image i) number count pages frozen now base some same = inl (refl, same)

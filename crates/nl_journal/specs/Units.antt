@@ -93,11 +93,12 @@ pub record CommitsDirty (result : Commits) (old new : Progress) (old_pages new_p
   pub waits : (CommitIsDone result → ⊥) → new_pages ≡ record old_pages { dirty = []; frozen = dirty_pages old_pages }
   pub running : new_pages.running ≡ old_pages.running
 
--- Units were done until at most so many are left. Of the metadata only the frozen pages change: all of them are home, or they stay. The
--- number of the last transaction that was begun stays.
+-- Units were done until at most so many are left, and never are more left than before. Of the metadata only the frozen pages change: all of
+-- them are home, or they stay. The number of the last transaction that was begun stays.
 pub record Finishes (until : ℕ) (done : Type 0) (old new : Progress) (old_pages new_pages : Pages) : Type 0 where
   pub left : done → units_left new.phase (length new_pages.frozen.addresses) ≤ until
   pub more : (done → ⊥) → until + 1 ≤ units_left new.phase (length new_pages.frozen.addresses)
+  pub fewer : units_left new.phase (length new_pages.frozen.addresses) ≤ units_left old.phase (length old_pages.frozen.addresses)
   pub begun_stays : begun new (length new_pages.frozen.addresses) ≡ begun old (length old_pages.frozen.addresses)
   pub number : (new.number ≡ old.number) ⊎ (new.number ≡ begun old (length old_pages.frozen.addresses))
   pub kept : new_pages ≡ record old_pages { frozen = new_pages.frozen }

@@ -29,9 +29,9 @@ if_some P Q R None h by = tt
 if_some P Q R (Some m) h by = by m h
 
 -- whether a part was decided, as a record of what it answers has it
-pub is_decided_by : {D : Type 0} (g : Ghosts D) (s t : D) (p q : Progress) (pages : Pages) (now : Frozen) (o : Option ℕ) → MatchOption o (StillAwaitsCommitPage p q pages.frozen now) (DecidesAt g s t p q pages) → IsDecided o p q pages.frozen now
+pub is_decided_by : {D : Type 0} (g : Ghosts D) (s t : D) (p q : Progress) (pages : Pages) (now : Frozen) (o : Option ℕ) → MatchOption o (StillAwaitsCommitPage p q pages.frozen now) (DecidesAt g s t p q pages now) → IsDecided o p q pages.frozen now
 is_decided_by g s t p q pages now None stays = stays
-is_decided_by g s t p q pages now (Some moment) d = (d.was_open, d.number)
+is_decided_by g s t p q pages now (Some moment) d = (d.was_open, d.is_shut, d.number)
 
 pub earlier_by : (m a b : ℕ) → m ≤ a → Earlier a b → a ≤ b → Earlier m b
 earlier_by m a b from strict le below = elim (cases_lt a top) [
@@ -72,7 +72,7 @@ first_is_dirty xs = ⊎_elim (λ is. is) (λ no. absurd ((not-with 0 xs 0 no).0 
 module _ {D : Type 0} (g : Ghosts D) where
   -- a transaction that was done was decided, later than the call began
   pub done_later : (mid new : D) (q r : Progress) (pages new_pages : Pages) (o : Option ℕ) → q.phase ≡ Header → 1 ≤ length pages.dirty
-      → MatchOption o (StillAwaitsCommitPage q r (dirty_pages pages) new_pages.frozen) (DecidesAt g mid new q r (with_frozen pages))
+      → MatchOption o (StillAwaitsCommitPage q r (dirty_pages pages) new_pages.frozen) (DecidesAt g mid new q r (with_frozen pages) new_pages.frozen)
       → units_left r.phase (length new_pages.frozen.addresses) ≤ 0 → Earlier (g.clock mid) (g.clock new)
   done_later mid new q r pages new_pages None header some stays none below =
       let more : length new_pages.frozen.addresses < units_left r.phase (length new_pages.frozen.addresses) = stays (open_header q.phase (length pages.dirty) header some) in

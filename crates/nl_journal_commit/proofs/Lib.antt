@@ -6,4 +6,5 @@ pub mod CommittingSteps
 pub mod Paid
 pub mod HoldingOn
 pub mod PartSteps
+pub mod UnitSteps
 pub mod ReadSteps

@@ -65,7 +65,7 @@ module _ {D : Type 0} (g : Ghosts D) (s t : D) (p q : Progress) (pages : Pages) 
       omega (arith, all, same))
       (cases_lt (length pages.frozen.addresses) (units_left p.phase (length pages.frozen.addresses)))
 
-  pub part_paid : (o : Option ℕ) → MatchOption o (StillAwaitsCommitPage p q pages.frozen now) (DecidesAt g s t p q pages) → NumberPaid (g.clock s) p.number (g.clock t) q.number
+  pub part_paid : (o : Option ℕ) → MatchOption o (StillAwaitsCommitPage p q pages.frozen now) (DecidesAt g s t p q pages now) → NumberPaid (g.clock s) p.number (g.clock t) q.number
   part_paid None opens low = ⊎_elim
       (λ same. omega (arith, clock, same))
       (λ all. let less = all_same all opens in omega (arith, clock, less))

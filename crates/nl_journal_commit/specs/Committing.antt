@@ -1,5 +1,5 @@
 -- A whole commit: what was frozen is completed, and then the dirty pages.
-use Rattle.std.specs.Prelude.{◌≡◌, ◌⊎◌, ℕ, ◌≤◌, ⊤, length, Option, None}
+use Rattle.std.specs.Prelude.{◌≡◌, ◌⊎◌, ℕ, ◌≤◌, ⊤, Bool, true, false, length, Option, None}
 use Rattle.nl_field.specs.CrashStates.{Earlier, Turns}
 use Rattle.nl_field.specs.declared.answers.VirtualWrite.{VirtualWrite}
 use Rattle.nl_field.specs.declared.answers.VirtualWrite.TheVariants as write
@@ -43,22 +43,22 @@ abbrev pub ChangesAt : {D : Type 0} → Ghosts D → D → D → Progress → Pr
 ChangesAt g old new p r pages now = CommitsAt g old new p r pages now (LeavesOne g old (ahead_on g old p pages))
 
 -- A commit is done in two parts. What is frozen is completed; once that is done, the dirty pages are frozen and completed. Else the second
--- part is left out. The moments of their commit pages are told, where they were finished.
-pub record CommitsInParts {D : Type 0} (g : Ghosts D) (done : Type 0) (earlier decided : Option ℕ) (s : D) (p : Progress) (pages : Pages)
-    (t : D) (r : Progress) (now : Pages) : Type 0 where
+-- part is left out. It is told whether the dirty pages were frozen, and the moments of the commit pages, where they were finished.
+pub record CommitsInParts {D : Type 0} (g : Ghosts D) (done : Type 0) (froze : Bool) (earlier decided : Option ℕ) (s : D) (p : Progress)
+    (pages : Pages) (t : D) (r : Progress) (now : Pages) : Type 0 where
   pub between : D
   pub halfway : Progress
   pub rest : Pages
   pub answer : VirtualWrite
   pub first : Completes g (answer ≡ write.Done) s p pages between halfway rest
   pub first_decided : IsDecided earlier p halfway pages.frozen rest.frozen
-  pub second : ((done → ⊥) × (t ≡ between) × (r ≡ halfway) × (now ≡ rest) × (decided ≡ None))
-      ⊎ (IsPages rest × CanFreeze (g.shape between).vaddrs halfway rest
+  pub second : ((froze ≡ false) × (done → ⊥) × (t ≡ between) × (r ≡ halfway) × (now ≡ rest) × (decided ≡ None))
+      ⊎ ((froze ≡ true) × IsPages rest × CanFreeze (g.shape between).vaddrs halfway rest
       × Completes g done between halfway (with_frozen rest) t r now × IsDecided decided halfway r (dirty_pages rest) now.frozen)
 
 -- What a whole commit does to the pages in memory, its two parts, and how far the number of transactions rises.
-pub record CommitsWhole {D : Type 0} (g : Ghosts D) (done : Type 0) (earlier decided : Option ℕ) (s : D) (p : Progress) (pages : Pages) (t : D)
-    (r : Progress) (now : Pages) : Type 0 where
+pub record CommitsWhole {D : Type 0} (g : Ghosts D) (done : Type 0) (froze : Bool) (earlier decided : Option ℕ) (s : D) (p : Progress)
+    (pages : Pages) (t : D) (r : Progress) (now : Pages) : Type 0 where
   pub in_memory : CommitsPages done p r pages now
-  pub parts : CommitsInParts g done earlier decided s p pages t r now
+  pub parts : CommitsInParts g done froze earlier decided s p pages t r now
   pub paid : NumberPaid (g.clock s) p.number (g.clock t) r.number

@@ -17,8 +17,10 @@ AwaitsCommitPage p frozen = length frozen.addresses < units_left p.phase (length
 
 -- The commit page was finished at this moment, later than the call began. The number is the transaction's, and a stop at that moment or a
 -- later one leaves its pages committed.
-pub record DecidesAt {D : Type 0} (g : Ghosts D) (old new : D) (p q : Progress) (pages : Pages) (moment : ℕ) : Type 0 where
+pub record DecidesAt {D : Type 0} (g : Ghosts D) (old new : D) (p q : Progress) (pages : Pages) (now : Frozen)
+    (moment : ℕ) : Type 0 where
   pub was_open : AwaitsCommitPage p pages.frozen
+  pub is_shut : AwaitsCommitPage q now → ⊥
   pub number : q.number ≡ begun p (length pages.frozen.addresses)
   pub later : Earlier (g.clock old) moment
   pub from : g.clock old ≤ moment
@@ -34,7 +36,8 @@ StillAwaitsCommitPage p q frozen now = AwaitsCommitPage p frozen → AwaitsCommi
 -- Whether the commit page was finished: at a moment that is told, or not.
 abbrev pub IsDecided : Option ℕ → Progress → Progress → Frozen → Frozen → Type 0
 IsDecided None p q frozen now = StillAwaitsCommitPage p q frozen now
-IsDecided (Some moment) p q frozen now = AwaitsCommitPage p frozen × (q.number ≡ begun p (length frozen.addresses))
+IsDecided (Some moment) p q frozen now =
+    AwaitsCommitPage p frozen × (AwaitsCommitPage q now → ⊥) × (q.number ≡ begun p (length frozen.addresses))
 
 -- the number of a transaction, up to the greatest that is spelled
 abbrev pub spelled : ℕ → ℕ

@@ -34,7 +34,7 @@ pub fn commit_changes<D: VirtualPages>(
     ensures stands { PreservesGraph D.Counts device.old meta.old device.new journal.new meta.new }
     ensures finishes { Finishes 0 (result.answer ≡ VirtualWrite.Done) journal.old journal.new (with_frozen meta.old) meta.new }
     ensures decided { MatchOption result.decided (StillAwaitsCommitPage journal.old journal.new (dirty_pages meta.old) meta.new.frozen)
-        (DecidesAt D.Counts device.old device.new journal.old journal.new (with_frozen meta.old)) }
+        (DecidesAt D.Counts device.old device.new journal.old journal.new (with_frozen meta.old) meta.new.frozen) }
     ensures writes { D.tells → HasNumber journal.old (length meta.old.dirty) → FinishWrites D.Counts
         (result.answer ≡ VirtualWrite.Done) journal.old journal.new (with_frozen meta.old) meta.new device.old device.new }
     ensures passes { ChangesAddressesOnly D.Counts (result.answer ≡ VirtualWrite.Done) 256 device.old device.new }

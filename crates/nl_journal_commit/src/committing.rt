@@ -21,6 +21,8 @@ use nl_meta::Meta;
 #[derive(Clone, Copy, Debug, PartialEq, Eq)]
 pub struct Committed {
     pub answer: VirtualWrite,
+    /// Whether the dirty pages were frozen: what was frozen before is home then.
+    pub froze: bool,
     /// The clock as the commit page of the transaction that was frozen before was finished, where that was now.
     pub earlier: Option<u64>,
     /// The clock as the commit page of the dirty pages was finished, where it was.
@@ -45,8 +47,8 @@ pub fn commit<D: VirtualPages>(
     requires count { count < 2 ^ 63 }
     ensures formed { D.formed device.new }
     ensures stands { PreservesGraph D.Counts device.old meta.old device.new journal.new meta.new }
-    ensures commits { CommitsWhole D.Counts (result.answer ≡ VirtualWrite.Done) result.earlier result.decided device.old journal.old
-        (with_count shape.now count meta.old) device.new journal.new meta.new }
+    ensures commits { CommitsWhole D.Counts (result.answer ≡ VirtualWrite.Done) result.froze result.earlier result.decided device.old
+        journal.old (with_count shape.now count meta.old) device.new journal.new meta.new }
     ensures earlier { IfSome result.earlier
         (EarlierAt D.Counts device.old device.new journal.old journal.new (with_count shape.now count meta.old) meta.new) }
     ensures decided { IfSome result.decided
@@ -66,12 +68,14 @@ pub fn commit<D: VirtualPages>(
             let rest = commit_changes(device, journal, meta);
             Committed {
                 answer: rest.answer,
+                froze: true,
                 earlier: first.decided,
                 decided: rest.decided,
             }
         }
         answer => Committed {
             answer,
+            froze: false,
             earlier: first.decided,
             decided: None,
         },

@@ -38,7 +38,7 @@ pub fn complete<D: VirtualPages>(
     ensures stands { PreservesGraph D.Counts device.old meta.old device.new journal.new meta.new }
     ensures finishes { Finishes 0 (result.answer ≡ VirtualWrite.Done) journal.old journal.new meta.old meta.new }
     ensures decided { MatchOption result.decided (StillAwaitsCommitPage journal.old journal.new meta.old.frozen meta.new.frozen)
-        (DecidesAt D.Counts device.old device.new journal.old journal.new meta.old) }
+        (DecidesAt D.Counts device.old device.new journal.old journal.new meta.old meta.new.frozen) }
     ensures writes { D.tells → HasNumber journal.old (length meta.old.frozen.addresses)
         → FinishWrites D.Counts (result.answer ≡ VirtualWrite.Done) journal.old journal.new meta.old meta.new device.old device.new }
     ensures passes { ChangesAddressesOnly D.Counts (result.answer ≡ VirtualWrite.Done) 256 device.old device.new }

@@ -1,10 +1,9 @@
 -- The trees of a volume go on through a whole commit, and what a stop within it opens as.
-use Rattle.std.proofs.Common.{◌≡◌, ◌⊎◌, inl, inr, ⊎_elim, ℕ, ◌+◌, ◌<◌, ◌≤◌, ◌^◌, List, [], ◌∷◌, length, Option, Some, None, refl, sym, ap, subst, ◌∙◌, arith}
+use Rattle.std.proofs.Common.{◌≡◌, inl, inr, ⊎_elim, ℕ, ◌<◌, ◌≤◌, ◌^◌, Bool, true, false, List, length, Option, Some, None, refl, sym, ap, subst, ◌∙◌, arith}
 use Rattle.std.specs.Prelude.{IfSome, ⊤}
-use Rattle.std.specs.List.{list_any}
 use Rattle.std.proofs.lemmas.Bool.{cases_lt}
 use Rattle.std.proofs.lemmas.List.{get_or-set_same}
-use Rattle.nl_field.specs.CrashStates.{Earlier, Turns, top}
+use Rattle.nl_field.specs.CrashStates.{Earlier, Turns}
 use Rattle.nl_field.specs.Members.{Has}
 use Rattle.nl_field.specs.SuperPage.{super_bytes}
 use Rattle.nl_field.specs.Virtual.{or_zeros}
@@ -12,7 +11,6 @@ use Rattle.nl_field.specs.declared.answers.VirtualWrite.TheVariants as write
 use Rattle.nl_field.specs.declared.pointer.Pointer.{Pointer}
 use Rattle.nl_field.specs.declared.pointer.Tag.{Tag}
 use Rattle.nl_field.specs.declared.shape.Shape.{Shape}
-use Rattle.nl_tree.specs.Tree.{Tree}
 use Rattle.nl_iface.specs.Calls.{CrashStatesHave}
 use Rattle.nl_iface.specs.Device.{IsVolumeShape}
 use Rattle.nl_iface.specs.Stored.{Stored}
@@ -25,11 +23,11 @@ use Rattle.nl_journal.specs.Progress.{HasNumber, Progress, units_left}
 use Rattle.nl_meta.specs.Committed.{VirtualMap}
 use Rattle.nl_meta.specs.Consistent.{PageOfStamp}
 use Rattle.nl_meta.specs.Nodes.{Held}
-use Rattle.nl_meta.specs.Pages.{IsPages, Pages, dirty_pages, is_dirty, page_of}
+use Rattle.nl_meta.specs.Pages.{IsPages, Pages, dirty_pages, page_of}
 use Rattle.nl_meta.specs.Steps.{with_dirty}
 use Rattle.nl_meta_running.specs.Running.{running_on}
 use Rattle.nl_spec_image.specs.CrashConsistency.{LeavesTree}
-use Rattle.nl_journal_commit.specs.Committing.{ChangesAt, CommitsInParts, EarlierAt}
+use Rattle.nl_journal_commit.specs.Committing.{ChangesAt, EarlierAt}
 use Rattle.nl_journal_commit.specs.Completing.{Completes, IsDecided, AwaitsCommitPage}
 use Rattle.nl_journal_commit.specs.Counting.{record_of, with_count, with_frozen}
 use Rattle.nl_journal_commit.specs.Standing.{CanFreeze, IsJournaled, PreservesGraph}
@@ -40,16 +38,17 @@ use Rattle.nl_journal_commit.proofs.Standing.{dirty_is_a_transaction, freezing_s
 use Rattle.nl_spec_commits.specs.Committed.{IsHoldingOn, read_as}
 use Rattle.nl_spec_commits.specs.Held.{IsHeldVolume}
 use Rattle.nl_spec_commits.specs.Standing.{IsFirm, LeadsCommitted, LeavesRepresented, ShowsPages, RepresentsAndLeads}
-use Rattle.nl_spec_commits.specs.TreeLaws.{CommitPreservesTrees, CommitLeaves, CommitsTrees, OpensFrom, committed_by, completed, decided_tree, frozen_now, last_commit_moment}
+use Rattle.nl_spec_commits.specs.TreeLaws.{CommitPreservesTrees, CommitLeaves, CommitsTrees, OpensFrom, committed_by, completed, decided_tree, frozen_by, frozen_now, last_commit_moment}
 use Rattle.nl_spec_commits.specs.Trees.{StoredOpensAs, Prefix, RepresentsTrees, Trees, prefixes}
 use Rattle.nl_spec_commits.proofs.Ahead.{runs_some}
+use Rattle.nl_spec_commits.proofs.Completing.{completes_moves}
 use Rattle.nl_spec_commits.proofs.Counted.{super_page_held}
 use Rattle.nl_spec_commits.proofs.Freezing.{number_before, super_pages_hold}
 use Rattle.nl_spec_commits.proofs.Stopping.{held_alike, held_lead, running_lead, stops_stand}
 use Rattle.nl_spec_commits.proofs.Trees.{freezing_goes, goes_on, is_open, stands_as, super_page_goes, with_super}
 
 -- the super page once it has other bytes
-dirty_there : {D : Type 0} (g : Ghosts D) (s : D) (p : Progress) (pages : Pages) (bytes : List ℕ) → IsJournaled g s p pages → page_of (with_dirty pages 0 bytes) 0 ≡ Some bytes
+pub dirty_there : {D : Type 0} (g : Ghosts D) (s : D) (p : Progress) (pages : Pages) (bytes : List ℕ) → IsJournaled g s p pages → page_of (with_dirty pages 0 bytes) 0 ≡ Some bytes
 dirty_there g s p pages bytes j = get_or-set_same pages.running 0 (Some bytes) None (resident_below pages 0 j.super_page)
 
 -- what a part leaves committed is one of the trees
@@ -61,7 +60,7 @@ committed_whole : (count : ℕ) (earlier decided : Option ℕ) (x : Trees) → d
 committed_whole count earlier None x = refl
 committed_whole count earlier (Some moment) x = refl
 
-module _ {D : Type 0} (g : Ghosts D) (done : Type 0) (s t : D) (p r : Progress) (pages now : Pages) (count : ℕ) (page_of_stamp : ℕ → Option PageOfStamp) (x : Trees) (earlier decided : Option ℕ) (volume : IsVolumeShape (g.shape s)) (tells : g.tells)
+module _ {D : Type 0} (g : Ghosts D) (done : Type 0) (s t : D) (p r : Progress) (pages now : Pages) (count : ℕ) (page_of_stamp : ℕ → Option PageOfStamp) (x : Trees) (froze : Bool) (earlier decided : Option ℕ) (volume : IsVolumeShape (g.shape s)) (tells : g.tells)
     (numbers : HasNumber r (length now.frozen.addresses)) (small : count < 2 ^ 63) (j : IsJournaled g s p pages) (at : RepresentsTrees g s p pages count page_of_stamp x) where
   abbrev pub counted : Pages
   counted = with_count (g.shape s) count pages
@@ -72,22 +71,22 @@ module _ {D : Type 0} (g : Ghosts D) (done : Type 0) (s t : D) (p r : Progress) 
   -- the first part alone
   halves : (m : D) (q : Progress) (mid : Pages) (half : Type 0) → HasNumber p (length pages.frozen.addresses) → Completes g half s p counted m q mid → IsDecided earlier p q counted.frozen mid.frozen
       → RepresentsTrees g m q mid count page_of_stamp (completed earlier x)
-  halves m q mid half small_p c is = goes_on g half s m p q counted mid count page_of_stamp x volume tells small_p stored.journaled c
+  halves m q mid half small_p c is = goes_on g s m p q counted mid count page_of_stamp x volume tells small_p stored.journaled (completes_moves g half s m p q counted mid c)
       (super_page_goes g s p pages (g.shape s) count count page_of_stamp x volume j at) earlier is
 
-  stopped : (m : D) (q : Progress) (mid : Pages) (half : Type 0) → HasNumber q (length mid.frozen.addresses) → Completes g half s p counted m q mid → IsDecided earlier p q counted.frozen mid.frozen → decided ≡ None
-      → CommitsTrees g m q mid count page_of_stamp earlier decided x
-  stopped m q mid half small_q c is none = record {
+  stopped : (m : D) (q : Progress) (mid : Pages) (half : Type 0) → HasNumber q (length mid.frozen.addresses) → Completes g half s p counted m q mid → IsDecided earlier p q counted.frozen mid.frozen → froze ≡ false → decided ≡ None
+      → CommitsTrees g m q mid count page_of_stamp froze earlier decided x
+  stopped m q mid half small_q c is off none = record {
     trees = completed earlier x;
     stands = halves m q mid half (subst (λ n. n < 9223372036854775808) c.finishes.begun_stays small_q) c is;
     running = refl;
     committed = sym (ap (λ (o : Option ℕ). committed_by count earlier o x) none);
-    frozen = inr (inl refl);
+    frozen = sym (ap (λ (b : Bool). frozen_by count b x) off);
   }
 
   whole : (m : D) (q : Progress) (mid : Pages) (half : Type 0) → Completes g half s p counted m q mid → IsDecided earlier p q counted.frozen mid.frozen → IsPages mid → CanFreeze (g.shape m).vaddrs q mid
-      → Completes g done m q (with_frozen mid) t r now → IsDecided decided q r (dirty_pages mid) now.frozen → CommitsTrees g t r now count page_of_stamp earlier decided x
-  whole m q mid half c is held can later also =
+      → Completes g done m q (with_frozen mid) t r now → IsDecided decided q r (dirty_pages mid) now.frozen → froze ≡ true → CommitsTrees g t r now count page_of_stamp froze earlier decided x
+  whole m q mid half c is held can later also on =
       let small_d : HasNumber q (length mid.dirty) = subst (λ n. n < 9223372036854775808) later.finishes.begun_stays numbers in
       let small_q : HasNumber q (length mid.frozen.addresses) = number_before (g.shape m).vaddrs q mid can small_d in
       let small_p : HasNumber p (length pages.frozen.addresses) = subst (λ n. n < 9223372036854775808) c.finishes.begun_stays small_q in
@@ -99,24 +98,25 @@ module _ {D : Type 0} (g : Ghosts D) (done : Type 0) (s t : D) (p r : Progress) 
       let frozen = freezing_stands g m q mid volume_m c.stands.journaled held can in
       record {
         trees = completed decided (frozen_now count (completed earlier x));
-        stands = goes_on g done m t q r (with_frozen mid) now count page_of_stamp (frozen_now count (completed earlier x)) volume_m tells small_d frozen.journaled later two decided also;
+        stands = goes_on g m t q r (with_frozen mid) now count page_of_stamp (frozen_now count (completed earlier x)) volume_m tells small_d frozen.journaled
+            (completes_moves g done m t q r (with_frozen mid) now later) two decided also;
         running = refl;
         committed = committed_whole count earlier decided x;
-        frozen = inr (inr (inl refl));
+        frozen = sym (ap (λ (b : Bool). frozen_by count b x) on);
       }
     where
       super_there : page_of counted 0 ≡ Some (super_bytes (record_of (g.shape s) count))
       super_there = dirty_there g s p pages (super_bytes (record_of (g.shape s) count)) j
 
 pub commit_goes : {D : Type 0} (g : Ghosts D) → CommitPreservesTrees g
-commit_goes {D = D} g answer s t p r pages now count page_of_stamp x earlier decided volume tells numbers small j c at = ⊎_elim
+commit_goes {D = D} g answer s t p r pages now count page_of_stamp x froze earlier decided volume tells numbers small j c at = ⊎_elim
     (λ y.
-    subst (λ (d : D). CommitsTrees g d r now count page_of_stamp earlier decided x) (sym y.1)
-    (subst (λ (q : Progress). CommitsTrees g c.between q now count page_of_stamp earlier decided x) (sym y.2)
-    (subst (λ (m : Pages). CommitsTrees g c.between c.halfway m count page_of_stamp earlier decided x) (sym y.3)
-    (stopped g (answer ≡ write.Done) s t p r pages now count page_of_stamp x earlier decided volume tells numbers small j at c.between c.halfway c.rest (c.answer ≡ write.Done)
-    (subst (λ (m : Pages). HasNumber c.halfway (length m.frozen.addresses)) y.3 (subst (λ (q : Progress). HasNumber q (length now.frozen.addresses)) y.2 numbers)) c.first c.first_decided y.4))))
-    (λ y. whole g (answer ≡ write.Done) s t p r pages now count page_of_stamp x earlier decided volume tells numbers small j at c.between c.halfway c.rest (c.answer ≡ write.Done) c.first c.first_decided y.0 y.1 y.2 y.3) c.second
+    subst (λ (d : D). CommitsTrees g d r now count page_of_stamp froze earlier decided x) (sym y.2)
+    (subst (λ (q : Progress). CommitsTrees g c.between q now count page_of_stamp froze earlier decided x) (sym y.3)
+    (subst (λ (m : Pages). CommitsTrees g c.between c.halfway m count page_of_stamp froze earlier decided x) (sym y.4)
+    (stopped g (answer ≡ write.Done) s t p r pages now count page_of_stamp x froze earlier decided volume tells numbers small j at c.between c.halfway c.rest (c.answer ≡ write.Done)
+    (subst (λ (m : Pages). HasNumber c.halfway (length m.frozen.addresses)) y.4 (subst (λ (q : Progress). HasNumber q (length now.frozen.addresses)) y.3 numbers)) c.first c.first_decided y.0 y.5))))
+    (λ y. whole g (answer ≡ write.Done) s t p r pages now count page_of_stamp x froze earlier decided volume tells numbers small j at c.between c.halfway c.rest (c.answer ≡ write.Done) c.first c.first_decided y.1 y.2 y.3 y.4 y.0) c.second
 
 -- ---- what a stop leaves
 
@@ -130,7 +130,7 @@ stand_alike g s old new page_of_stamp z alike m = record {
 }
 
 module _ {D : Type 0} (g : Ghosts D) (s t : D) (p r : Progress) (pages now : Pages) (count : ℕ) (page_of_stamp : ℕ → Option PageOfStamp) (x : Trees) (flight : List (Tag × Pointer)) (freeing : List Pointer) (volume : IsVolumeShape (g.shape s))
-    (tells : g.tells) (numbers : HasNumber p (length pages.frozen.addresses)) (small : count < 2 ^ 63) (j : IsJournaled g s p pages) (held : IsPages pages) (h : IsHeldVolume g s p pages flight freeing)
+    (tells : g.tells) (numbers : HasNumber p (length pages.frozen.addresses)) (small : count < 2 ^ 63) (j : IsJournaled g s p pages) (held : IsPages pages) {leaving : ℕ} (h : IsHeldVolume g s p pages flight freeing leaving)
     (firm : IsFirm g s) (shows : ShowsPages (g.names s) (g.bytes s) page_of_stamp) (at : RepresentsTrees g s p pages count page_of_stamp x) where
   abbrev pub counted_pages : Pages
   counted_pages = with_count (g.shape s) count pages
@@ -249,5 +249,5 @@ module _ {D : Type 0} (g : Ghosts D) (s t : D) (p r : Progress) (pages now : Pag
   }
 
 pub commit_leaves : {D : Type 0} (g : Ghosts D) → CommitLeaves g
-commit_leaves g answer s t p r pages now count before page_of_stamp x earlier decided flight freeing volume tells numbers numbers_r small few j are h firm shows w e d at =
+commit_leaves g answer s t p r pages now count before page_of_stamp x earlier decided flight freeing leaving volume tells numbers numbers_r small few j are h firm shows w e d at =
     leaves_from g s t p r pages now count page_of_stamp x flight freeing volume tells numbers small j are h firm shows at before (answer ≡ write.Done) earlier decided numbers_r few w e d

@@ -1,10 +1,9 @@
 -- What holds of pages in memory holds with another super page.
-use Rattle.std.proofs.Common.{◌≡◌, ◌⊎◌, inl, inr, ⊎_elim, ℕ, ◌+◌, ◌<◌, ◌≤◌, ◌==◌, nat_lt, Bool, true, false, not, List, [], ◌∷◌, ◌++◌, length, filter, Option, Some, None, IsSome, is_some, refl, sym, ap, subst, ◌∙◌, arith, eq-eqb, ne_eqb}
+use Rattle.std.proofs.Common.{◌≡◌, ◌⊎◌, inl, inr, ⊎_elim, ℕ, ◌<◌, ◌≤◌, ◌==◌, nat_lt, Bool, not, List, [], ◌∷◌, length, filter, Some, None, IsSome, is_some, refl, sym, ap, subst, ◌∙◌, arith, ne_eqb}
 use Rattle.std.proofs.lemmas.Bool.{cases_eq, cond-false, le-ltb, lt-ltb, not_from_false}
 use Rattle.std.proofs.lemmas.List.{get_or-set_other, get_or-set_same, length-append}
 use Rattle.std.proofs.lemmas.List.Elements.{filter-append}
-use Rattle.nl_field.specs.Members.{Has}
-use Rattle.nl_meta.specs.Pages.{IsPages, Pages, above, below, besides_0, most, page_of, with_address}
+use Rattle.nl_meta.specs.Pages.{IsPages, Pages, above, below, besides_0, page_of, with_address}
 use Rattle.nl_meta.specs.Steps.{with_dirty}
 use Rattle.nl_meta.proofs.Rising.{filtered_few, with-member, with-rises}
 use Rattle.nl_journal_commit.proofs.Places.{resident_below}

@@ -1,5 +1,5 @@
 -- The trees of a volume go on while its device changes.
-use Rattle.std.proofs.Common.{◌≡◌, inl, inr, ⊎_elim, ℕ, ◌+◌, ◌<◌, ◌≤◌, List, [], length, Option, Some, None, refl, sym, ap, subst, ◌∙◌, ◌==◌, arith}
+use Rattle.std.proofs.Common.{◌≡◌, ⊎_elim, ℕ, ◌+◌, ◌<◌, ◌≤◌, List, [], length, Option, Some, None, refl, sym, ap, subst, ◌∙◌, ◌==◌, arith}
 use Rattle.std.specs.Prelude.{option_map, unwrap_or}
 use Rattle.std.proofs.lemmas.List.Quantifiers.{position-Some}
 use Rattle.nl_field.specs.Members as members
@@ -7,39 +7,35 @@ use Rattle.nl_field.specs.Virtual.{or_zeros}
 use Rattle.nl_field.specs.declared.header.HeaderRec.{HeaderRec}
 use Rattle.nl_field.specs.declared.shape.Shape.{Shape}
 use Rattle.nl_tree.specs.Tree.{Tree}
-use Rattle.nl_spec_holders.specs.Holding.{Holding, KeepsCommitted}
+use Rattle.nl_spec_holders.specs.Holding.{KeepsCommitted}
 use Rattle.nl_spec_holders.specs.Laws.{PreservesHolding}
 use Rattle.nl_iface.specs.Calls.{KeepsVirtual, StoresMap, stored}
 use Rattle.nl_iface.specs.Device.{IsVolumeShape}
-use Rattle.nl_iface.specs.Holders.{IsRef, wants}
-use Rattle.nl_iface.specs.Names.{Has}
 use Rattle.nl_iface.specs.Stored.{SameVirtual, Stored, Value}
 use Rattle.nl_iface.specs.declared.counts.Counts.{Ghosts}
 use Rattle.nl_journal.specs.Committing.{committed_on, finished_on}
-use Rattle.nl_journal.specs.Outcomes.{Agrees, IsHome, bytes_of}
+use Rattle.nl_journal.specs.Outcomes.{Agrees, bytes_of}
 use Rattle.nl_journal.specs.Progress.{HasNumber, Progress}
 use Rattle.nl_journal.proofs.Finishing.{finished_same}
 use Rattle.nl_journal.proofs.InOrders.{stays}
 use Rattle.nl_journal.proofs.Openings.{counting_is, counting_same}
 use Rattle.nl_meta.specs.Committed.{VirtualMap, committed, counting, home_or_image, place_in}
 use Rattle.nl_meta.specs.Consistent.{PointerIsThere, PageOfStamp, RightFor}
-use Rattle.nl_meta.specs.Nodes.{Held, graph_of, held_in}
+use Rattle.nl_meta.specs.Nodes.{Held, held_in}
 use Rattle.nl_meta.specs.Pages.{Pages}
 use Rattle.nl_meta.proofs.Lists.{none_some}
 use Rattle.nl_meta_running.specs.Running.{running_on}
 use Rattle.nl_meta_running.proofs.Holds.{bounds-of}
-use Rattle.nl_spec_image.specs.CrashConsistency.{IsLiveFor, MapRepresents, committed_in}
+use Rattle.nl_spec_image.specs.CrashConsistency.{MapRepresents, committed_in}
 use Rattle.nl_spec_image.specs.RightFor.{PagesRepresent}
 use Rattle.nl_spec_image.specs.Stands.{bytes_for}
 use Rattle.nl_spec_image.proofs.Represented.{represents_same}
-use Rattle.nl_journal_commit.specs.Completing.{AwaitsCommitPage}
 use Rattle.nl_journal_commit.specs.Standing.{IsJournaled}
 use Rattle.nl_journal_commit.proofs.Standing.{addresses_stand}
 use Rattle.nl_spec_commits.specs.Committed.{read_as}
-use Rattle.nl_spec_commits.specs.DeviceLaws.{AddressesGo, Extends, HoldingOpens, LeavesHolding, NowHolds, PagesGo}
-use Rattle.nl_spec_commits.specs.Held.{IsHeldVolume}
-use Rattle.nl_spec_commits.specs.Standing.{IsFirm, ShowsPages}
-use Rattle.nl_spec_commits.specs.Trees.{StoredOpensAs, Prefix, RepresentsTree, RepresentsPrefix, RepresentsTrees, Trees}
+use Rattle.nl_spec_commits.specs.DeviceLaws.{AddressesGo, Extends, HoldingOpens, NowHolds, PagesGo}
+use Rattle.nl_spec_commits.specs.Standing.{IsFirm}
+use Rattle.nl_spec_commits.specs.Trees.{Prefix, RepresentsTree, RepresentsPrefix, RepresentsTrees, Trees}
 use Rattle.nl_spec_commits.proofs.Reading.{committed_reads, few_addresses}
 use Rattle.nl_spec_commits.proofs.Stopping.{held_alike, kept_lead, stands_alike}
 use Rattle.nl_spec_commits.proofs.Trees.{runs_alike, stands_as}
@@ -154,7 +150,7 @@ module _ {D : Type 0} (g : Ghosts D) (s : D) (volume : IsVolumeShape (g.shape s)
 -- ---- what a stop leaves
 
 pub holding_opens : {D : Type 0} (g : Ghosts D) → HoldingOpens g
-holding_opens g s p pages count page_of_stamp x flight freeing c volume tells numbers held firm map at left =
+holding_opens g s p pages count page_of_stamp x flight freeing c leaving volume tells numbers held firm map at left =
     let v = held.holding in
     let shape = g.shape s in
     let keeps = left.keeps v held.is_of.runs.names in

@@ -145,34 +145,34 @@ module _ (shape : Shape) (old new : VirtualMap) (n index : ℕ) (was is : InodeR
 -- ---- a volume
 
 pub truncating_keeps_held : {D : Type 0} (g : Ghosts D) → TruncatingKeepsHeld g
-truncating_keeps_held g s t p pages now flight freeing n index was is volume j h reads same c none =
+truncating_keeps_held g s t p pages now flight freeing n index was is leaving volume j h reads same c none =
     let old = running_on g s pages in
     let new = running_on g t now in
     let r = truncates (g.shape s) old new n index was is c none in
-    subst (λ (f : List Pointer). IsHeldVolume g t p now flight (freeing ++ f)) (plain_behind (g.shape s) old new n index was is c index)
-    (cutting_keeps_held g s t p pages now flight flight (there n was.generation index (drop index (all_of old was))) [] freeing volume j h reads same
+    subst (λ (f : List Pointer). IsHeldVolume g t p now flight (freeing ++ f) leaving) (plain_behind (g.shape s) old new n index was is c index)
+    (cutting_keeps_held g s t p pages now flight flight (there n was.generation index (drop index (all_of old was))) [] freeing _ volume j h reads same
     (record { front = r.front; behind = r.behind; was = r.was; is = holders_at g s t new reads ∙ r.is }) refl)
 
 pub parting_keeps_held : {D : Type 0} (g : Ghosts D) → PartingKeepsHeld g
-parting_keeps_held g s t p pages now flight later freeing n index was is volume j h reads same c some flown =
+parting_keeps_held g s t p pages now flight later freeing n index was is leaving volume j h reads same c some flown =
     let old = running_on g s pages in
     let new = running_on g t now in
     let shape = g.shape s in
     let come = to shape old new n index was is c in
-    subst (λ (f : List Pointer). IsHeldVolume g t p now later f) (plain_gone shape old new n index was is c freeing)
-    (replacing_keeps_held g s t p pages now flight later (rest shape old new n index was is c ++ at shape old new n index was is c) come (between shape old new n index was is c) freeing volume j h reads same
+    subst (λ (f : List Pointer). IsHeldVolume g t p now later f leaving) (plain_gone shape old new n index was is c freeing)
+    (replacing_keeps_held g s t p pages now flight later (rest shape old new n index was is c ++ at shape old new n index was is c) come (between shape old new n index was is c) freeing _ volume j h reads same
     (loses shape old new n index was is c)
     (subst (λ (l : List (Tag × Pointer)). GainsEach come (between shape old new n index was is c) l) (sym (holders_at g s t new reads)) (gains shape old new n index was is c))
     (subst (λ (l : List (Tag × Pointer)). LosesEach l flight later) (sym (shown_some (record { ino = n; generation = was.generation; index = index }) (pointer_at new is index) some)) (later, flown, refl)))
 
 pub emptying_keeps_held : {D : Type 0} (g : Ghosts D) → EmptyingKeepsHeld g
-emptying_keeps_held g s t p pages now flight freeing n was volume j h reads same file none others =
+emptying_keeps_held g s t p pages now flight freeing n was leaving volume j h reads same file none others =
     let old = running_on g s pages in
     let new = running_on g t now in
     let shape = g.shape s in
     let around = node_changes shape old new n file.below others in
-    subst (λ (f : List Pointer). IsHeldVolume g t p now flight (freeing ++ f)) (plain_there n was.generation 0 (all_of old was) ∙ behind_is shape old n was file 0)
-    (cutting_keeps_held g s t p pages now flight flight (there n was.generation 0 (all_of old was)) [] freeing volume j h reads same
+    subst (λ (f : List Pointer). IsHeldVolume g t p now flight (freeing ++ f) leaving) (plain_there n was.generation 0 (all_of old was) ∙ behind_is shape old n was file 0)
+    (cutting_keeps_held g s t p pages now flight flight (there n was.generation 0 (all_of old was)) [] freeing _ volume j h reads same
     (record {
       front = around.front;
       behind = around.back;

@@ -12,7 +12,7 @@ use Rattle.nl_iface.proofs.Stops.{tried_agree}
 use Rattle.nl_journal.specs.Left.{CommitWrites, LeavesRest}
 use Rattle.nl_journal.specs.Progress.{Progress}
 use Rattle.nl_meta.specs.Pages.{Pages}
-use Rattle.nl_spec_commits.specs.FirmLaws.{CommitKeepsFirm, MediumKeepsFirm, ProgramKeepsFirm, StoredKeepsFirm}
+use Rattle.nl_spec_commits.specs.FirmLaws.{CommitKeepsFirm, MediumKeepsFirm, ProgramKeepsFirm, StoredKeepsFirm, UnitKeepsFirm}
 
 -- no write failed at an address that was none before
 still_none : {D : Type 0} (g : Ghosts D) (s t : D) → g.shape t ≡ g.shape s → ((v : ℕ) (x : Value) → g.failed t v x → g.failed s v x) → NoneFailed (g.shape s).vaddrs (g.failed s)
@@ -59,6 +59,17 @@ rest_of g done s t p r pages now w = ⊎_elim (λ x. x.1.1) (λ x. x.1) w.left.n
 pub commit_keeps_firm : {D : Type 0} (g : Ghosts D) → CommitKeepsFirm g
 commit_keeps_firm g answer most s t p r pages now tells f w k fine stores =
     let rest = rest_of g (answer ≡ write.Done) s t p r pages now w in
+    record {
+      firm = rest.firm f.firm f.none_failed;
+      none_failed = still_none g s t k.named.same_shape
+          (λ v x failed. ⊎_elim (λ old. old) (λ late. ⊎_elim (λ d. absurd (late.0 d)) (λ none. absurd (none late.1)) fine) (k.failed tells v x failed)) f.none_failed;
+      pages = stores;
+      agree = agree_on (stored g s) (stored g t) rest.named f.agree;
+    }
+
+pub unit_keeps_firm : {D : Type 0} (g : Ghosts D) → UnitKeepsFirm g
+unit_keeps_firm g answer most s t p q pages now tells f w k fine stores =
+    let rest : LeavesRest (g.shape s).vaddrs (g.failed s) (stored g s) (stored g t) = ⊎_elim (λ x. x.1.1) (λ x. x.1) w.left.now in
     record {
       firm = rest.firm f.firm f.none_failed;
       none_failed = still_none g s t k.named.same_shape

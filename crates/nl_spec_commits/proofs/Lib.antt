@@ -9,6 +9,7 @@ pub mod Holding
 pub mod Changing
 pub mod Trees
 pub mod CommitTrees
+pub mod UnitTrees
 pub mod DeviceTrees
 pub mod Counted
 pub mod Steps

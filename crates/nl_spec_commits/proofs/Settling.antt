@@ -124,6 +124,22 @@ acknowledges_hold g s t p pages v upto is counts acks = record {
 fewer : (r n m : ℕ) → 1 ≤ r + n → n ≤ m → 1 ≤ r + m
 fewer r n m some le = omega (arith, some, le)
 
+-- no page is due: those that the frozen transaction gives up stay
+pub none_due_now : (v : Holding) → PreservesHolding v (record v { due = 0 })
+none_due_now v = record {
+  holds = λ h. record { table = h.table; held = h.held };
+  committed = λ h k. record {
+    committed = k.committed;
+    committed_kept = λ p has. fewer (times tagged p.stamp v.running) (times plain p.stamp (drop v.due v.freeing)) (times plain p.stamp v.freeing) (k.committed_kept p has) (times_drop plain p.stamp v.due v.freeing);
+    frozen = k.frozen;
+    frozen_kept = k.frozen_kept;
+    decided_first = k.decided_first;
+    next_later = k.next_later;
+    leaving_awaits = k.leaving_awaits;
+    due_awaits = omega arith;
+  };
+}
+
 pub none_due : NoneDue
 none_due v = record {
   holds = λ h. record { table = h.table; held = h.held };

@@ -1,24 +1,20 @@
 -- The trees of a volume go on through the parts of a commit.
-use Rattle.std.proofs.Common.{◌≡◌, ◌⊎◌, inl, inr, ⊎_elim, ℕ, zero, suc, ◌+◌, ◌<◌, ◌≤◌, ◌^◌, Bool, true, false, List, [], ◌∷◌, length, Option, Some, None, IsSome, option_and_then, refl, sym, ap, subst, ◌∙◌, arith}
-use Rattle.std.specs.Prelude.{min}
+use Rattle.std.proofs.Common.{◌≡◌, ◌⊎◌, inl, inr, ⊎_elim, ℕ, zero, suc, ◌+◌, ◌<◌, ◌^◌, List, length, Option, Some, None, option_and_then, refl, sym, ap, subst, ◌∙◌, arith}
 use Rattle.std.specs.Prelude.{IsTrue}
 use Rattle.std.proofs.lemmas.Bool.{and_from, cases_lt, lt-ltb}
 use Rattle.nl_field.specs.Graph.{Graph}
-use Rattle.nl_field.specs.Members as members
 use Rattle.nl_field.specs.Numbers.{ShapeBounds, is_legal}
 use Rattle.nl_field.specs.SuperPage.{fits_super, super_bytes, super_of}
 use Rattle.nl_field.proofs.SuperPage.{super-spelled}
 use Rattle.nl_field.specs.Virtual.{or_zeros}
 use Rattle.nl_field.specs.declared.answers.VirtualWrite.TheVariants as write
 use Rattle.nl_field.specs.declared.shape.Shape.{Shape}
-use Rattle.nl_field.specs.declared.super_page.SuperRec.{SuperRec}
 use Rattle.nl_tree.specs.Represents.{Represents}
 use Rattle.nl_tree.specs.Tree.{Tree}
 use Rattle.nl_iface.specs.Device.{IsVolumeShape}
 use Rattle.nl_iface.specs.declared.counts.Counts.{Ghosts}
 use Rattle.nl_journal.specs.Committing.{ahead_on, committed_on, finished, finished_on}
-use Rattle.nl_journal.specs.Left.{FinishWrites}
-use Rattle.nl_journal.specs.Outcomes.{Agrees, IsHome}
+use Rattle.nl_journal.specs.Outcomes.{Agrees}
 use Rattle.nl_journal.specs.Progress.{HasNumber, Progress, begun, raised, units_left}
 use Rattle.nl_journal.specs.declared.answers.Phase.{Phase}
 use Rattle.nl_journal.specs.declared.answers.Phase.TheVariants.{Header, Image, Commit, Home}
@@ -27,7 +23,7 @@ use Rattle.nl_journal.proofs.CommitSteps.{begun_header}
 use Rattle.nl_journal.proofs.Finishing.{with_none, with_same}
 use Rattle.nl_meta.specs.Committed.{VirtualMap}
 use Rattle.nl_meta.specs.Consistent.{PointerIsThere, PageOfStamp, PointersRight}
-use Rattle.nl_meta.specs.Nodes.{Held, graph_of, held_in, pointers_of, super_of_pages}
+use Rattle.nl_meta.specs.Nodes.{Held, graph_of, pointers_of, super_of_pages}
 use Rattle.nl_meta.specs.Pages.{Frozen, IsPages, Pages, dirty_pages, page_of}
 use Rattle.nl_meta_running.specs.FileLaws.{IsRight}
 use Rattle.nl_meta_running.specs.Running.{IsNeeded, running_on}
@@ -36,13 +32,14 @@ use Rattle.nl_meta_running.proofs.Holds.{bounds-of}
 use Rattle.nl_spec_image.specs.CrashConsistency.{MapRepresents}
 use Rattle.nl_spec_image.proofs.FreshProofs.{limits}
 use Rattle.nl_spec_image.specs.Stands.{bytes_for}
-use Rattle.nl_journal_commit.specs.Completing.{Completes, IsDecided, AwaitsCommitPage}
+use Rattle.nl_journal_commit.specs.Completing.{IsDecided, AwaitsCommitPage}
 use Rattle.nl_journal_commit.specs.Counting.{record_of, with_count, with_frozen}
 use Rattle.nl_journal_commit.specs.Standing.{CanFreeze, IsJournaled}
 use Rattle.nl_journal_commit.proofs.CompletingSteps.{closed_by, closed_pages}
 use Rattle.nl_journal_commit.proofs.PartSteps.{frozen_runs}
 use Rattle.nl_journal_commit.proofs.Standing.{super_page_stands}
 use Rattle.nl_spec_commits.specs.Committed.{read_as}
+use Rattle.nl_spec_commits.proofs.Completing.{MovesOn, completes_moves}
 use Rattle.nl_spec_commits.specs.TreeLaws.{CompletingPreservesTrees, FreezingPreservesTrees, SuperPagePreservesTrees, completed, frozen_now}
 use Rattle.nl_spec_commits.specs.Trees.{Prefix, RepresentsTree, RepresentsPrefix, RepresentsTrees, Trees}
 use Rattle.nl_spec_commits.proofs.Ahead.{ahead_is_running, runs_some}
@@ -120,11 +117,8 @@ module _ {D : Type 0} (g : Ghosts D) (s : D) (p : Progress) (pages : Pages) (cou
 
 -- ---- a part of a commit
 
-module _ {D : Type 0} (g : Ghosts D) (done : Type 0) (s t : D) (p q : Progress) (pages now : Pages) (count : ℕ) (page_of_stamp : ℕ → Option PageOfStamp) (x : Trees) (volume : IsVolumeShape (g.shape s)) (tells : g.tells)
-    (numbers : HasNumber p (length pages.frozen.addresses)) (j : IsJournaled g s p pages) (c : Completes g done s p pages t q now) (at : RepresentsTrees g s p pages count page_of_stamp x) where
-  w : FinishWrites g done p q pages now s t
-  w = c.writes tells numbers
-
+module _ {D : Type 0} (g : Ghosts D) (s t : D) (p q : Progress) (pages now : Pages) (count : ℕ) (page_of_stamp : ℕ → Option PageOfStamp) (x : Trees) (volume : IsVolumeShape (g.shape s)) (tells : g.tells)
+    (numbers : HasNumber p (length pages.frozen.addresses)) (j : IsJournaled g s p pages) (c : MovesOn g s p pages t q now) (at : RepresentsTrees g s p pages count page_of_stamp x) where
   -- said of the device before
   on_t : (a : VirtualMap) (y : Prefix) → RepresentsPrefix (g.shape s) a page_of_stamp y → RepresentsPrefix (g.shape t) a page_of_stamp y
   on_t a y m = subst (λ (h : Shape). RepresentsPrefix h a page_of_stamp y) (sym c.same_shape) m
@@ -137,7 +131,7 @@ module _ {D : Type 0} (g : Ghosts D) (done : Type 0) (s t : D) (p q : Progress) 
   fin = finished_stands g s p pages count page_of_stamp x j at
 
   fin_then : RepresentsPrefix (g.shape t) (finished_on g t q now) page_of_stamp x.frozen
-  fin_then = on_t (finished_on g t q now) x.frozen (stands_as (g.shape s) (finished_on g s p pages) (finished_on g t q now) page_of_stamp x.frozen w.same_finished fin)
+  fin_then = on_t (finished_on g t q now) x.frozen (stands_as (g.shape s) (finished_on g s p pages) (finished_on g t q now) page_of_stamp x.frozen (c.same_finished tells numbers) fin)
 
   by_finished : Agrees (g.shape s).vaddrs (committed_on g t) (finished_on g s p pages) → RepresentsPrefix (g.shape t) (committed_on g t) page_of_stamp x.frozen
   by_finished alike = on_t (committed_on g t) x.frozen (stands_as (g.shape s) (finished_on g s p pages) (committed_on g t) page_of_stamp x.frozen alike fin)
@@ -149,15 +143,15 @@ module _ {D : Type 0} (g : Ghosts D) (done : Type 0) (s t : D) (p q : Progress) 
   undecided : (AwaitsCommitPage p pages.frozen → AwaitsCommitPage q now.frozen) → q.number ≡ begun p (length pages.frozen.addresses) → x.frozen ≡ x.committed
   undecided stays number = ⊎_elim
       (λ more.
-      let later = open_number q now.frozen (stays more) (subst (λ n. n < 9223372036854775808) (sym c.finishes.begun_stays) numbers) in
-      let same = c.finishes.begun_stays in
+      let later = open_number q now.frozen (stays more) (subst (λ n. n < 9223372036854775808) (sym c.begun_stays) numbers) in
+      let same = c.begun_stays in
       absurd (let no : ⊥ = omega (arith, later, same, number) in no))
       at.thawed (is_open p pages.frozen)
 
   pub goes_on : (decided : Option ℕ) → IsDecided decided p q pages.frozen now.frozen → RepresentsTrees g t q now count page_of_stamp (completed decided x)
   goes_on None stays = record {
     running = runs_then;
-    committed = ⊎_elim (λ one. by_committed one.1) (λ two. subst (λ (y : Prefix). RepresentsPrefix (g.shape t) (committed_on g t) page_of_stamp y) (undecided stays two.0) (by_finished two.1)) w.decided;
+    committed = ⊎_elim (λ one. by_committed one.1) (λ two. subst (λ (y : Prefix). RepresentsPrefix (g.shape t) (committed_on g t) page_of_stamp y) (undecided stays two.0) (by_finished two.1)) (c.decided tells numbers);
     frozen = λ more. fin_then;
     thawed = λ shut. at.thawed (λ more. shut (stays more));
     later = at.later;
@@ -168,10 +162,10 @@ module _ {D : Type 0} (g : Ghosts D) (done : Type 0) (s t : D) (p q : Progress) 
     committed = ⊎_elim
         (λ one.
         let later = open_number p pages.frozen is.0 numbers in
-        let number = is.1 in
+        let number = is.2 in
         let same = one.0 in
         absurd (let no : ⊥ = omega (arith, later, number, same) in no))
-        (λ two. by_finished two.1) w.decided;
+        (λ two. by_finished two.1) (c.decided tells numbers);
     frozen = λ more. fin_then;
     thawed = λ shut. refl;
     later = omega arith;
@@ -179,7 +173,7 @@ module _ {D : Type 0} (g : Ghosts D) (done : Type 0) (s t : D) (p q : Progress) 
   }
 
 pub completing_goes : {D : Type 0} (g : Ghosts D) → CompletingPreservesTrees g
-completing_goes g answer s t p q pages now count page_of_stamp x decided volume tells numbers j c is at = goes_on g (answer ≡ write.Done) s t p q pages now count page_of_stamp x volume tells numbers j c at decided is
+completing_goes g answer s t p q pages now count page_of_stamp x decided volume tells numbers j c is at = goes_on g s t p q pages now count page_of_stamp x volume tells numbers j (completes_moves g (answer ≡ write.Done) s t p q pages now c) at decided is
 
 -- ---- the super page
 

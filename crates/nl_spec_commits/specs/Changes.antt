@@ -49,54 +49,54 @@ awaiting_then freeing was = freeing ++ given_up was
 -- Pages leave the running metadata, and await their free, behind the others. Pages come into it that were in flight.
 abbrev pub ReplacingKeepsHeld : {D : Type 0} → Ghosts D → Type 0
 ReplacingKeepsHeld {D} g =
-    (s t : D) (p : Progress) (pages now : Pages) (flight later gone come between : List (Tag × Pointer)) (freeing : List Pointer)
+    (s t : D) (p : Progress) (pages now : Pages) (flight later gone come between : List (Tag × Pointer)) (freeing : List Pointer) (leaving : ℕ)
     → IsVolumeShape (g.shape s) → IsJournaled g s p pages
-    → IsHeldVolume g s p pages flight freeing → OnlyReads g s t → now.frozen ≡ pages.frozen
+    → IsHeldVolume g s p pages flight freeing leaving → OnlyReads g s t → now.frozen ≡ pages.frozen
     → LosesEach gone (running_holders g s pages) between
     → GainsEach come between (running_holders g t now) → LosesEach come flight later
-    → IsHeldVolume g t p now later (freeing ++ map tagged gone)
+    → IsHeldVolume g t p now later (freeing ++ map tagged gone) leaving
 
 -- A file that is cut leaves a volume held: of the pointers some that stand one behind the other are gone, and of others that one has a new
 -- page.
 abbrev pub CuttingKeepsHeld : {D : Type 0} → Ghosts D → Type 0
 CuttingKeepsHeld {D} g =
-    (s t : D) (p : Progress) (pages now : Pages) (flight later gone come : List (Tag × Pointer)) (freeing : List Pointer)
+    (s t : D) (p : Progress) (pages now : Pages) (flight later gone come : List (Tag × Pointer)) (freeing : List Pointer) (leaving : ℕ)
     → IsVolumeShape (g.shape s) → IsJournaled g s p pages
-    → IsHeldVolume g s p pages flight freeing → OnlyReads g s t → now.frozen ≡ pages.frozen
+    → IsHeldVolume g s p pages flight freeing leaving → OnlyReads g s t → now.frozen ≡ pages.frozen
     → ReplacesSome gone come (running_holders g s pages) (running_holders g t now)
-    → LosesEach come flight later → IsHeldVolume g t p now later (freeing ++ map tagged gone)
+    → LosesEach come flight later → IsHeldVolume g t p now later (freeing ++ map tagged gone) leaving
 
 -- A page in flight that is installed in a file, in place of the one that the index had, leaves a volume held.
 abbrev pub InstallingKeepsHeld : {D : Type 0} → Ghosts D → Type 0
 InstallingKeepsHeld {D} g =
     (s t : D) (p : Progress) (pages now : Pages) (flight later : List (Tag × Pointer)) (freeing : List Pointer) (tag : Tag)
-    (was to : Pointer) → IsVolumeShape (g.shape s) → IsJournaled g s p pages
-    → IsHeldVolume g s p pages flight freeing → OnlyReads g s t → now.frozen ≡ pages.frozen
+    (was to : Pointer) (leaving : ℕ) → IsVolumeShape (g.shape s) → IsJournaled g s p pages
+    → IsHeldVolume g s p pages flight freeing leaving → OnlyReads g s t → now.frozen ≡ pages.frozen
     → OneChanges tag was to (running_holders g s pages) (running_holders g t now)
     → is_none_pointer to ≡ false → ListLoses tagged (tag, to) flight later
-    → IsHeldVolume g t p now later (awaiting_then freeing was)
+    → IsHeldVolume g t p now later (awaiting_then freeing was) leaving
 
 -- The pointers of all files are what they were, as where names change.
 abbrev pub NamesKeepHeld : {D : Type 0} → Ghosts D → Type 0
 NamesKeepHeld {D} g =
-    (s t : D) (p : Progress) (pages now : Pages) (flight : List (Tag × Pointer)) (freeing : List Pointer) → IsVolumeShape (g.shape s)
-    → IsJournaled g s p pages → IsHeldVolume g s p pages flight freeing
+    (s t : D) (p : Progress) (pages now : Pages) (flight : List (Tag × Pointer)) (freeing : List Pointer) (leaving : ℕ) → IsVolumeShape (g.shape s)
+    → IsJournaled g s p pages → IsHeldVolume g s p pages flight freeing leaving
     → OnlyReads g s t → now.frozen ≡ pages.frozen → running_holders g t now ≡ running_holders g s pages
-    → IsHeldVolume g t p now flight freeing
+    → IsHeldVolume g t p now flight freeing leaving
 
 -- Pages are read, and some become resident.
 abbrev pub ReadingKeepsHeld : {D : Type 0} → Ghosts D → Type 0
 ReadingKeepsHeld {D} g =
-    (s t : D) (p : Progress) (pages now : Pages) (flight : List (Tag × Pointer)) (freeing : List Pointer) → IsVolumeShape (g.shape s)
-    → IsJournaled g s p pages → IsHeldVolume g s p pages flight freeing
-    → PreservesRunning g s pages t now → IsHeldVolume g t p now flight freeing
+    (s t : D) (p : Progress) (pages now : Pages) (flight : List (Tag × Pointer)) (freeing : List Pointer) (leaving : ℕ) → IsVolumeShape (g.shape s)
+    → IsJournaled g s p pages → IsHeldVolume g s p pages flight freeing leaving
+    → PreservesRunning g s pages t now → IsHeldVolume g t p now flight freeing leaving
 
 -- The super page has other bytes, as where the count of calls is stored.
 abbrev pub SuperPageKeepsHeld : {D : Type 0} → Ghosts D → Type 0
 SuperPageKeepsHeld {D} g =
-    (s : D) (p : Progress) (pages : Pages) (bytes : List ℕ) (flight : List (Tag × Pointer)) (freeing : List Pointer)
+    (s : D) (p : Progress) (pages : Pages) (bytes : List ℕ) (flight : List (Tag × Pointer)) (freeing : List Pointer) (leaving : ℕ)
     → IsVolumeShape (g.shape s) → IsJournaled g s p pages
-    → IsHeldVolume g s p pages flight freeing → IsHeldVolume g s p (with_dirty pages 0 bytes) flight freeing
+    → IsHeldVolume g s p pages flight freeing leaving → IsHeldVolume g s p (with_dirty pages 0 bytes) flight freeing leaving
 
 -- ---- steps of lists
 

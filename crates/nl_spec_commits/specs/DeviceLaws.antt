@@ -51,8 +51,8 @@ pub record LeavesHolding {D : Type 0} (g : Ghosts D) (s : D) (page_of_stamp : �
 abbrev pub HoldingOpens : {D : Type 0} → Ghosts D → Type 0
 HoldingOpens {D} g =
     (s : D) (p : Progress) (pages : Pages) (count : ℕ) (page_of_stamp : ℕ → Option PageOfStamp) (x : Trees) (flight : List (Tag × Pointer))
-    (freeing : List Pointer) (c : Stored) → IsVolumeShape (g.shape s) → g.tells
-    → HasNumber p (length pages.frozen.addresses) → IsHeldVolume g s p pages flight freeing → IsFirm g s → StoresMap g s
+    (freeing : List Pointer) (c : Stored) (leaving : ℕ) → IsVolumeShape (g.shape s) → g.tells
+    → HasNumber p (length pages.frozen.addresses) → IsHeldVolume g s p pages flight freeing leaving → IsFirm g s → StoresMap g s
     → RepresentsTrees g s p pages count page_of_stamp x → LeavesHolding g s page_of_stamp c
     → StoredOpensAs (g.shape s) c x.committed
 

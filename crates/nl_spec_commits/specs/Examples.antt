@@ -1,5 +1,4 @@
 -- A journal that writes a transaction, and a pointer of a file.
-use Rattle.std.specs.Prelude.{ℕ}
 use Rattle.nl_field.specs.declared.pointer.Pointer.{Pointer}
 use Rattle.nl_journal.specs.Progress.{Progress}
 use Rattle.nl_journal.specs.declared.answers.Phase.TheVariants.{Image}

@@ -41,33 +41,33 @@ pub record CutsFilePointers (shape : Shape) (old new : VirtualMap) (n index : �
 -- A cut that leaves no pointer at the index leaves a volume held: those from there on await their free.
 abbrev pub TruncatingKeepsHeld : {D : Type 0} → Ghosts D → Type 0
 TruncatingKeepsHeld {D} g =
-    (s t : D) (p : Progress) (pages now : Pages) (flight : List (Tag × Pointer)) (freeing : List Pointer) (n index : ℕ) (was is : InodeRec)
+    (s t : D) (p : Progress) (pages now : Pages) (flight : List (Tag × Pointer)) (freeing : List Pointer) (n index : ℕ) (was is : InodeRec) (leaving : ℕ)
     → IsVolumeShape (g.shape s) → IsJournaled g s p pages
-    → IsHeldVolume g s p pages flight freeing → OnlyReads g s t → now.frozen ≡ pages.frozen
+    → IsHeldVolume g s p pages flight freeing leaving → OnlyReads g s t → now.frozen ≡ pages.frozen
     → CutsFilePointers (g.shape s) (running_on g s pages) (running_on g t now) n index was is
     → pointer_at (running_on g t now) is index ≡ no_pointer
-    → IsHeldVolume g t p now flight (freeing ++ pointers_behind (running_on g s pages) was index)
+    → IsHeldVolume g t p now flight (freeing ++ pointers_behind (running_on g s pages) was index) leaving
 
 -- A cut after which the index has a page that was in flight leaves a volume held: those behind it await their free, and then the one that
 -- the index had.
 abbrev pub PartingKeepsHeld : {D : Type 0} → Ghosts D → Type 0
 PartingKeepsHeld {D} g =
     (s t : D) (p : Progress) (pages now : Pages) (flight later : List (Tag × Pointer)) (freeing : List Pointer) (n index : ℕ)
-    (was is : InodeRec) → IsVolumeShape (g.shape s) → IsJournaled g s p pages
-    → IsHeldVolume g s p pages flight freeing → OnlyReads g s t → now.frozen ≡ pages.frozen
+    (was is : InodeRec) (leaving : ℕ) → IsVolumeShape (g.shape s) → IsJournaled g s p pages
+    → IsHeldVolume g s p pages flight freeing leaving → OnlyReads g s t → now.frozen ≡ pages.frozen
     → CutsFilePointers (g.shape s) (running_on g s pages) (running_on g t now) n index was is
     → is_none_pointer (pointer_at (running_on g t now) is index) ≡ false
     → ListLoses tagged
     (record { ino = n; generation = was.generation; index = index }, pointer_at (running_on g t now) is index) flight later
     → IsHeldVolume g t p now later
-    (freeing ++ pointers_behind (running_on g s pages) was (index + 1) ++ given_up (pointer_at (running_on g s pages) was index))
+    (freeing ++ pointers_behind (running_on g s pages) was (index + 1) ++ given_up (pointer_at (running_on g s pages) was index)) leaving
 
 -- The node of a file has no page any more: all of the file await their free.
 abbrev pub EmptyingKeepsHeld : {D : Type 0} → Ghosts D → Type 0
 EmptyingKeepsHeld {D} g =
-    (s t : D) (p : Progress) (pages now : Pages) (flight : List (Tag × Pointer)) (freeing : List Pointer) (n : ℕ) (was : InodeRec)
+    (s t : D) (p : Progress) (pages now : Pages) (flight : List (Tag × Pointer)) (freeing : List Pointer) (n : ℕ) (was : InodeRec) (leaving : ℕ)
     → IsVolumeShape (g.shape s) → IsJournaled g s p pages
-    → IsHeldVolume g s p pages flight freeing → OnlyReads g s t → now.frozen ≡ pages.frozen
+    → IsHeldVolume g s p pages flight freeing leaving → OnlyReads g s t → now.frozen ≡ pages.frozen
     → IsFile (g.shape s) (running_on g s pages) n was
     → tagged_by n (graph_of (g.shape s) (running_on g t now) n) ≡ [] → OtherNodesKeepPointers (g.shape s) (running_on g s pages) (running_on g t now) n
-    → IsHeldVolume g t p now flight (freeing ++ pointers_behind (running_on g s pages) was 0)
+    → IsHeldVolume g t p now flight (freeing ++ pointers_behind (running_on g s pages) was 0) leaving

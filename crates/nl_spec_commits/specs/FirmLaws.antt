@@ -1,4 +1,4 @@
--- A device stays firm through each step, and through a commit in which no write failed.
+-- A device stays firm through each step, and through a unit or a whole commit in which no write failed.
 use Rattle.std.specs.Prelude.{◌≡◌, ◌⊎◌, ℕ, List}
 use Rattle.nl_field.specs.declared.answers.Named.{Named}
 use Rattle.nl_field.specs.declared.answers.VirtualWrite.{VirtualWrite}
@@ -7,7 +7,7 @@ use Rattle.nl_field.specs.declared.pointer.Tag.{Tag}
 use Rattle.nl_iface.specs.Calls.{KeepsMedium, KeepsVirtual, LeavesNew, NoWriteFailed, StoresPages, stored}
 use Rattle.nl_iface.specs.Stored.{NamedAgree, SameVirtual}
 use Rattle.nl_iface.specs.declared.counts.Counts.{Ghosts}
-use Rattle.nl_journal.specs.Left.{CommitWrites}
+use Rattle.nl_journal.specs.Left.{CommitWrites, UnitWrites}
 use Rattle.nl_journal.specs.Passes.{ChangesAddressesOnly}
 use Rattle.nl_journal.specs.Progress.{Progress}
 use Rattle.nl_meta.specs.Pages.{Pages}
@@ -35,4 +35,11 @@ abbrev pub CommitKeepsFirm : {D : Type 0} → Ghosts D → Type 0
 CommitKeepsFirm {D} g =
     (answer : VirtualWrite) (most : ℕ) (s t : D) (p r : Progress) (pages now : Pages) → g.tells → IsFirm g s
     → CommitWrites g (answer ≡ write.Done) p r pages now s t
+    → ChangesAddressesOnly g (answer ≡ write.Done) most s t → (answer ≡ write.Done) ⊎ NoWriteFailed g s t → StoresPages g t → IsFirm g t
+
+-- A unit is done, or no write failed in it.
+abbrev pub UnitKeepsFirm : {D : Type 0} → Ghosts D → Type 0
+UnitKeepsFirm {D} g =
+    (answer : VirtualWrite) (most : ℕ) (s t : D) (p q : Progress) (pages now : Pages) → g.tells → IsFirm g s
+    → UnitWrites g (answer ≡ write.Done) p q pages now s t
     → ChangesAddressesOnly g (answer ≡ write.Done) most s t → (answer ≡ write.Done) ⊎ NoWriteFailed g s t → StoresPages g t → IsFirm g t

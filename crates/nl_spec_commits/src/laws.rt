@@ -5,12 +5,12 @@ ghost use Rattle.nl_iface.specs.Device.{IsVolumeShape};
 ghost use Rattle.nl_spec_holders.specs.Laws.{OldNamesDiffer};
 ghost use Rattle.nl_iface.specs.Names.{IsNames, IsTableOfNames};
 ghost use Rattle.nl_spec_commits.specs.Changes.{CuttingKeepsHeld, InstallingKeepsHeld, NamesKeepHeld, ReadingKeepsHeld, ReplacingKeepsHeld, RunsOfLists, SuperPageKeepsHeld};
-ghost use Rattle.nl_spec_commits.specs.CommittedLaws.{CompletingHolds, FreezingHolds, SuperPageHolds};
+ghost use Rattle.nl_spec_commits.specs.CommittedLaws.{CompletingHolds, FreezingHolds, SuperPageHolds, UnitHolds};
 ghost use Rattle.nl_spec_commits.specs.DeviceLaws.{AddressesGo, HoldingOpens, NowHolds, PagesGo};
 ghost use Rattle.nl_spec_commits.specs.FileCuts.{EmptyingKeepsHeld, PartingKeepsHeld, TruncatingKeepsHeld};
-ghost use Rattle.nl_spec_commits.specs.FirmLaws.{CommitKeepsFirm, MediumKeepsFirm, ProgramKeepsFirm, StoredKeepsFirm};
-ghost use Rattle.nl_spec_commits.specs.Held.{AcknowledgedKeepsHeld, CommitHolds, CommitKeepsHeld, FreedKeepsHeld, OpeningIsHeld};
-ghost use Rattle.nl_spec_commits.specs.TreeLaws.{CommitPreservesTrees, CommitLeaves, CompletingPreservesTrees, FreezingPreservesTrees, SuperPagePreservesTrees};
+ghost use Rattle.nl_spec_commits.specs.FirmLaws.{CommitKeepsFirm, MediumKeepsFirm, ProgramKeepsFirm, StoredKeepsFirm, UnitKeepsFirm};
+ghost use Rattle.nl_spec_commits.specs.Held.{AcknowledgedKeepsHeld, CommitHolds, CommitKeepsHeld, DecidedKeepsHeld, FreedKeepsHeld, FreezeKeepsHeld, OpeningIsHeld, UnitKeepsHeld};
+ghost use Rattle.nl_spec_commits.specs.TreeLaws.{CommitPreservesTrees, CommitLeaves, CompletingPreservesTrees, FreezingPreservesTrees, SuperPagePreservesTrees, UnitLeaves, UnitPreservesTrees};
 ghost use Rattle.nl_spec_commits.specs.OpeningLaws.{ConsistentIsFirm, OpenedIsFirm};
 ghost use Rattle.nl_spec_commits.specs.SettlingLaws.{AcknowledgesHold, AddressesHold, ChangesJournaled, FreesHold, MetadataHolds, NoneDue, StepsJournaled};
 ghost use Rattle.nl_spec_commits.specs.Steps.{CleaningKeepsHeld, CopyKeepsHeld, DropKeepsHeld, HandlingKeepsHeld, ProgramKeepsHeld, StepKeepsHeld, TablesKeepHeld};
@@ -19,9 +19,10 @@ ghost use Rattle.nl_spec_commits.specs.Standing.{AheadIsRunning, CommittedReads,
 use nl_iface::{NamedPages, VirtualPages};
 
 /// Each live page is held on through a commit, and what is committed and what is frozen keep their pages: while the frozen transaction is
-/// completed, as the dirty pages are frozen, and with another super page.
+/// completed, at once or by one unit, as the dirty pages are frozen, and with another super page.
 pub fn commits_hold<D: VirtualPages>()
     ensures completing { CompletingHolds D.Counts }
+    ensures unit { UnitHolds D.Counts }
     ensures freezing { FreezingHolds D.Counts }
     ensures super_page { SuperPageHolds D.Counts }
 {}
@@ -62,6 +63,14 @@ pub fn commits_keep_held<D: VirtualPages>()
     ensures acknowledged { AcknowledgedKeepsHeld D.Counts }
 {}
 
+/// Unit by unit each live page is held once, and what is committed and frozen keeps its pages: as the dirty pages are frozen, through a unit,
+/// and once the pages are freed that a transaction gave up whose commit page is written.
+pub fn units_keep_held<D: VirtualPages>()
+    ensures freeze { FreezeKeepsHeld D.Counts }
+    ensures unit { UnitKeepsHeld D.Counts }
+    ensures decided { DecidedKeepsHeld D.Counts }
+{}
+
 /// An opening leaves each live page held once, where no transaction is open and what runs is what is committed.
 pub fn opening_is_held<D: VirtualPages>()
     ensures { OpeningIsHeld D.Counts }
@@ -75,6 +84,13 @@ pub fn trees_go_on<D: VirtualPages>()
     ensures super_page { SuperPagePreservesTrees D.Counts }
     ensures commit { CommitPreservesTrees D.Counts }
     ensures leaves { CommitLeaves D.Counts }
+{}
+
+/// The trees of a volume go on through a unit: what was frozen is committed once its commit page is written. What a stop within it leaves
+/// opens as one of them, from the moment of that page on as none earlier.
+pub fn trees_go_on_by_unit<D: VirtualPages>()
+    ensures unit { UnitPreservesTrees D.Counts }
+    ensures leaves { UnitLeaves D.Counts }
 {}
 
 /// While the device changes, the trees go on: where the addresses stay, and where further pages are there. What a stop within a call of the
@@ -122,13 +138,14 @@ pub fn cuts_keep_held<D: VirtualPages>()
     ensures emptying { EmptyingKeepsHeld D.Counts }
 {}
 
-/// A device stays firm: while its medium stays, while pages are programmed under names, moved and erased, and through a commit that is done
-/// or in which no write failed.
+/// A device stays firm: while its medium stays, while pages are programmed under names, moved and erased, and through a unit or a commit
+/// that is done or in which no write failed.
 pub fn devices_stay_firm<D: VirtualPages>()
     ensures stored { StoredKeepsFirm D.Counts }
     ensures medium { MediumKeepsFirm D.Counts }
     ensures program { ProgramKeepsFirm D.Counts }
     ensures commit { CommitKeepsFirm D.Counts }
+    ensures unit { UnitKeepsFirm D.Counts }
 {}
 
 /// A device that stands has legal numbers, and where it tells what it stores, the medium has the map, the live pages, and the names.

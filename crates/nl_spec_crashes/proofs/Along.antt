@@ -2,7 +2,7 @@
 use Rattle.std.proofs.Common.{◌≡◌, ◌⊎◌, inl, inr, ⊎_elim, ℕ, ◌+◌, ◌-◌, ◌<◌, ◌≤◌, ◌^◌, Bool, true, false, cond, max, nat_le, List, [], ◌∷◌, ◌++◌, fold, length, take, Option, refl, sym, ap, subst, ◌∙◌, arith, length-append}
 use Rattle.std.proofs.lemmas.Bool.{cases_lt}
 use Rattle.std.proofs.lemmas.List.{take-append-le, take_all}
-use Rattle.nl_field.specs.CrashStates.{saturated}
+use Rattle.nl_field.specs.CrashStates.{Earlier, saturated}
 use Rattle.nl_field.specs.Members.{Has}
 use Rattle.nl_field.specs.declared.shape.Shape.{Shape}
 use Rattle.nl_tree.specs.Order.{SyncPoint, durable_prefix}
@@ -142,20 +142,37 @@ module _ {D : Type 0} (g : Ghosts D) where
           },
         )
 
-    -- each image opens as a tree of the run, or was left before; the tree holds what is committed, from the moment of the last commit page on
+    -- each image was left before, or opens as a tree of the run
     pub left_after : (m : ℕ) (c : g.Crash) → g.left v.device m c
-        → g.left origin.device m c ⊎ ((first ≤ m) × (m ≤ g.clock v.device)
-        × (((m ≤ g.clock u.device) × OpensAsPrefix (opens_as g run.shape) run m c)
-        ⊎ ((o : OpensAsPrefix (opens_as g run.shape) run m c) × (v.moment ≤ m → v.committed ≤ o.prefix) × ((s : SyncPoint) → Has run.syncs s → s.upto ≤ o.prefix) × (run.count ≤ o.prefix))))
-    unfolding opens_so
+        → g.left origin.device m c ⊎ ((first ≤ m) × (m ≤ g.clock v.device) × OpensAsPrefix (opens_as g run.shape) run m c)
     left_after m c left =
         let l = a.left told k.0 k.1 (v.committed, k.1.running) refl al.stands in
         let from = w.from in
         let clock = a.clock in
-        ⊎_elim (λ was. ⊎_elim inl (λ x. let to = x.1 in inr (x.0, omega (arith, to, clock), inl (to, x.2))) ((w.stops told_u).each m c was))
-        (λ x.
-        let start = x.0 in
-        inr (omega (arith, from, start), x.1, inr (opens_so m c x.2.0 x.2.1 x.2.2, x.2.3, synced_by x.2.0 x.2.1, (of_run x.2.0 x.2.1).from)))
+        ⊎_elim (λ was. ⊎_elim inl (λ x. let to = x.1 in inr (x.0, omega (arith, to, clock), x.2)) ((w.stops told_u).each m c was))
+        (λ x. let start = x.0 in inr (omega (arith, from, start), x.1, opens_so m c x.2.0 x.2.1 x.2.2))
+        (l.each m c left)
+
+    -- what was left before the call, at a moment from that of the last commit on
+    held_before : ((v.moment ≡ u.moment) × (v.committed ≡ u.committed)) ⊎ (Earlier (g.clock u.device) v.moment × (g.clock u.device ≤ v.moment)) → (m : ℕ) (c : g.Crash) → g.left u.device m c → v.moment ≤ m
+        → g.left origin.device m c ⊎ ((o : OpensAsPrefix (opens_as g run.shape) run m c) × (v.committed ≤ o.prefix))
+    held_before (inl same) m c was from =
+        let moment = same.0 in
+        let committed = same.1 in
+        ⊎_elim inl (λ x. let low = x.1 in inr (x.0, omega (arith, low, committed))) (w.held told_u m c was (omega (arith, from, moment)))
+    held_before (inr later) m c was from =
+        let few = told.moments in
+        let clock = a.clock in
+        let behind = later.0 (omega (arith, few, clock)) in
+        ⊎_elim inl (λ x. let to = x.1 in absurd (let no : ⊥ = omega (arith, to, behind, from) in no)) ((w.stops told_u).each m c was)
+
+    pub held_after : (m : ℕ) (c : g.Crash) → g.left v.device m c → v.moment ≤ m
+        → g.left origin.device m c ⊎ ((o : OpensAsPrefix (opens_as g run.shape) run m c) × (v.committed ≤ o.prefix))
+    unfolding opens_so
+    held_after m c left from =
+        let l = a.left told k.0 k.1 (v.committed, k.1.running) refl al.stands in
+        ⊎_elim (λ was. held_before a.moment m c was from)
+        (λ x. inr (opens_so m c x.2.0 x.2.1 x.2.2, x.2.3 from))
         (l.each m c left)
 
   runs_after : (n : ℕ) (u v : Core D) (origin : Core D) (first : ℕ) (run : Run) → PreservesVolume g n u v → FollowsRun g origin first run u → g.tells
@@ -173,23 +190,22 @@ module _ {D : Type 0} (g : Ghosts D) where
     paid = paid_on g first origin.journal.number u v n a w.paid;
     runs = runs_after n u v origin first run a w;
     trees = λ told. trees_after n u v origin first run a w told;
-    stops = λ told. record {
-      each = λ m c left. ⊎_elim inl (λ x. inr (x.0, x.1, ⊎_elim (λ was. was.1) (λ is. is.0) x.2)) (left_after n u v origin first run a w told m c left);
-    };
+    stops = λ told. record { each = left_after n u v origin first run a w told };
+    held = λ told. held_after n u v origin first run a w told;
   }
 
   of_synced : (run : Run) (s : SyncPoint) (z : Prefix) → IsOfRun run z → IsOfRun (with_sync run s) z
   of_synced run s z is = record { from = is.from; to = is.to; tree = is.tree }
 
   pub sync_goes_along : SyncFollowsRun g
-  sync_goes_along n number u v origin first run a all w = record {
-    shape = a.same_shape ∙ w.shape;
-    from = let one = w.from in let two = a.clock in omega (arith, one, two);
-    count = a.count ∙ w.count;
-    paid = paid_on g first origin.journal.number u v n a w.paid;
-    runs = runs_after n u v origin first run a w;
+  sync_goes_along v origin first run w = record {
+    shape = w.shape;
+    from = w.from;
+    count = w.count;
+    paid = w.paid;
+    runs = w.runs;
     trees = λ told.
-        let k = trees_after n u v origin first run a w told in
+        let k = w.trees told in
         let al : IsAlong g run v k.0 k.1 = k.2 in (
           k.0,
           k.1,
@@ -201,30 +217,32 @@ module _ {D : Type 0} (g : Ghosts D) where
             synced = λ y has. ⊎_elim (λ was. al.synced y was) (λ e. let is = al.stands.committed in let same = ap (λ (x : SyncPoint). x.upto) e in omega (arith, is, same)) (sync_of run.syncs s y has);
           },
         );
-    stops = λ told. record {
-      each = λ m c left. ⊎_elim inl (λ x. inr (x.0, x.1, ⊎_elim (λ was. earlier told m c was.0 was.1) (λ is. by m c is.0 is.1 is.2 is.3 (cases_lt m v.moment)) x.2)) (left_after n u v origin first run a w told m c left);
-    };
+    stops = λ told. record { each = λ m c left. ⊎_elim inl (λ x. ⊎_elim inl (λ o. inr (x.0, x.1, o)) (by told m c left x.2 (cases_lt m v.moment))) ((w.stops told).each m c left) };
+    held = λ told m c left from. ⊎_elim inl (λ x. let low = x.1 in inr (with_now told m c x.0 x.1, low)) (w.held told m c left from);
   }
     where
       s : SyncPoint
       s = record { upto = v.committed; moment = v.moment }
 
-      earlier : CoreIsObservable g v → (m : ℕ) (c : g.Crash) → m ≤ g.clock u.device → OpensAsPrefix (opens_as g run.shape) run m c → OpensAsPrefix (opens_as g run.shape) (with_sync run s) m c
-      earlier told m c to o =
-          let few = told.moments in
-          let clock = a.clock in
-          let decided = all.decided (omega (arith, few, clock)) in
-          more_syncs (opens_as g run.shape) run s m c (omega (arith, to, decided)) o
+      -- a tree with as many calls as are committed has those of each sync
+      with_now : CoreIsObservable g v → (m : ℕ) (c : g.Crash) (o : OpensAsPrefix (opens_as g run.shape) run m c) → v.committed ≤ o.prefix → OpensAsPrefix (opens_as g run.shape) (with_sync run s) m c
+      with_now told m c o low =
+          let k = w.trees told in
+          let al : IsAlong g run v k.0 k.1 = k.2 in
+          let is = al.stands.committed in
+          let from = al.committed.from in
+          record {
+            prefix = o.prefix;
+            holds_synced = durable_within (run.syncs ++ s ∷ []) run.count m o.prefix (omega (arith, from, is, low))
+                (λ y has. ⊎_elim (λ was. let one = al.synced y was in omega (arith, one, is, low)) (λ e. let same = ap (λ (x : SyncPoint). x.upto) e in omega (arith, low, same)) (sync_of run.syncs s y has));
+            not_beyond = o.not_beyond;
+            sound = o.sound;
+          }
 
-      by : (m : ℕ) (c : g.Crash) (o : OpensAsPrefix (opens_as g run.shape) run m c) → (v.moment ≤ m → v.committed ≤ o.prefix) → ((y : SyncPoint) → Has run.syncs y → y.upto ≤ o.prefix) → run.count ≤ o.prefix → (m < v.moment) ⊎ (v.moment ≤ m)
-          → OpensAsPrefix (opens_as g run.shape) (with_sync run s) m c
-      by m c o after each from (inl low) = more_syncs (opens_as g run.shape) run s m c low o
-      by m c o after each from (inr high) = record {
-        prefix = o.prefix;
-        holds_synced = durable_within (run.syncs ++ s ∷ []) run.count m o.prefix from (λ y has. ⊎_elim (λ was. each y was) (λ e. let is = after high in let same = ap (λ (x : SyncPoint). x.upto) e in omega (arith, is, same)) (sync_of run.syncs s y has));
-        not_beyond = o.not_beyond;
-        sound = o.sound;
-      }
+      by : CoreIsObservable g v → (m : ℕ) (c : g.Crash) → g.left v.device m c → OpensAsPrefix (opens_as g run.shape) run m c → (m < v.moment) ⊎ (v.moment ≤ m)
+          → g.left origin.device m c ⊎ OpensAsPrefix (opens_as g run.shape) (with_sync run s) m c
+      by told m c left o (inl low) = inr (more_syncs (opens_as g run.shape) run s m c low o)
+      by told m c left o (inr high) = ⊎_elim inl (λ x. inr (with_now told m c x.0 x.1)) (w.held told m c left high)
 
   pub effect_goes_along : EffectFollowsRun g
   effect_goes_along u v x origin first run e w = record {
@@ -253,8 +271,26 @@ module _ {D : Type 0} (g : Ghosts D) where
     stops = λ told. record {
       each = λ m c left. ⊎_elim inl (λ o. let to = o.1 in let same = e.same_clock in inr (o.0, omega (arith, to, same), more_calls (opens_as g run.shape) run x m c o.2)) ((w.stops (e.told told)).each m c (e.left told.tells m c left));
     };
+    held = λ told m c left from.
+        let moment = e.same_moment in
+        ⊎_elim inl (λ k. inr (longer m c k.0 k.1)) (w.held (e.told told) m c (e.left told.tells m c left) (omega (arith, from, moment)));
   }
     where
+      longer : (m : ℕ) (c : g.Crash) (o : OpensAsPrefix (opens_as g run.shape) run m c) → u.committed ≤ o.prefix → (o' : OpensAsPrefix (opens_as g run.shape) (with_call run x) m c) × (v.committed ≤ o'.prefix)
+      longer m c o low =
+          let more = length-append run.calls (x ∷ []) in
+          let to = o.not_beyond in
+          let same = take-append-le (o.prefix - run.count) run.calls (x ∷ []) (omega (arith, to)) in
+          let committed = e.same_committed in (
+            record {
+              prefix = o.prefix;
+              holds_synced = o.holds_synced;
+              not_beyond = omega (arith, more, to);
+              sound = subst (λ (calls : List (Call × Option FaultReply)). opens_as g run.shape c o.prefix (replay run.shape run.tree calls)) (sym same) o.sound;
+            },
+            omega (arith, low, committed),
+          )
+
       last : CoreIsObservable g v → (t : Trees) → t.running ≡ tree_at run u.count → (step_marked (g.shape u.device) t.running x).tree ≡ tree_at (with_call run x) v.count
       last told t running =
           let few = told.calls in
@@ -280,6 +316,7 @@ module _ {D : Type 0} (g : Ghosts D) where
           record { stands = k.1; running = is; committed = first; frozen = first; synced = λ s none. absurd none },
         );
     stops = λ told. record { each = λ m c left. inl left };
+    held = λ told m c left from. inl left;
   }
     where
       run : Run

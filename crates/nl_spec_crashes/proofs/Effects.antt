@@ -54,13 +54,16 @@ module _ {D : Type 0} (g : Ghosts D) (old new : Core D) (x : Call × Option Faul
     };
     runs = counted_runs page_of_stamp t.running at.runs;
     committed = at.committed;
+    frozen = at.frozen;
   }
 
 pub step_takes_effect : {D : Type 0} (g : Ghosts D) → StepTakesEffect g
-step_takes_effect g old new x volume core step makes = record {
+step_takes_effect {D} g old new x volume core step makes = record {
   same_shape = step.reads.medium.virtual.same_shape;
   same_clock = step.reads.medium.clock;
   same_number = number_stays g old new x volume core step;
+  same_moment = ap (λ (v : Core D). v.moment) step.others;
+  same_committed = ap (λ (v : Core D). v.committed) step.others;
   left = step.reads.medium.left;
   count = ap (λ n. saturated (n + 1)) (same_count g old new x volume core step);
   told = told_old g old new x volume core step;

@@ -1,5 +1,5 @@
 -- A volume goes along a run: each tree that it has committed, or will commit, is one of the run, and so is what a stop leaves.
-use Rattle.std.specs.Prelude.{◌≡◌, ℕ, ◌+◌, ◌-◌, ◌≤◌, length, take, Option}
+use Rattle.std.specs.Prelude.{◌≡◌, ◌⊎◌, ℕ, ◌+◌, ◌-◌, ◌≤◌, length, take, Option}
 use Rattle.nl_field.specs.CrashStates.{saturated}
 use Rattle.nl_field.specs.Members.{Has}
 use Rattle.nl_field.specs.declared.shape.Shape.{Shape}
@@ -8,7 +8,7 @@ use Rattle.nl_tree.specs.Replay.{replay}
 use Rattle.nl_tree.specs.Tree.{Tree}
 use Rattle.nl_iface.specs.declared.counts.Counts.{Ghosts}
 use Rattle.nl_meta.specs.Consistent.{PageOfStamp}
-use Rattle.nl_spec_image.specs.Crash.{Run, CrashesSafely}
+use Rattle.nl_spec_image.specs.Crash.{OpensAsPrefix, Run, CrashesSafely}
 use Rattle.nl_spec_commits.specs.Trees.{StoredOpensAs, Prefix, Trees}
 use Rattle.nl_core.specs.Goes.{PaidSince}
 use Rattle.nl_core.specs.Trees.{CoreRepresentsTree, CoreRepresents, CoreIsObservable}
@@ -44,9 +44,17 @@ pub record IsAlong {D : Type 0} (g : Ghosts D) (run : Run) (v : Core D) (page_of
   pub frozen : IsOfRun run t.frozen
   pub synced : SyncsAreCommitted run t
 
+-- What a stop may leave at a moment from that of the last commit on was left before the run, or opens as a tree of it with at least the calls
+-- that are committed. So a sync may be answered with the last commit, whoever's it was.
+abbrev pub LastCommitIsHeld : {D : Type 0} → Ghosts D → Core D → Run → Core D → Type 0
+LastCommitIsHeld g origin run v =
+    (m : ℕ) (c : g.Crash) → g.left v.device m c → v.moment ≤ m
+    → g.left origin.device m c ⊎ ((o : OpensAsPrefix (opens_as g run.shape) run m c) × (v.committed ≤ o.prefix))
+
 -- The volume has answered the calls of the run since its first moment, when it was this one, the origin: what a stop had left before is no
 -- part of the run. The number of its transactions has risen by no more than the clock since. While the medium tells its contents, it runs
--- as the tree after all of the calls. While counts have not ended either, it goes along the run, and so does what a stop leaves.
+-- as the tree after all of the calls. While counts have not ended either, it goes along the run, and so does what a stop leaves, with what is
+-- committed from the moment of the last commit on.
 pub record FollowsRun {D : Type 0} (g : Ghosts D) (origin : Core D) (first : ℕ) (run : Run) (v : Core D) : Type 0 where
   pub shape : g.shape v.device ≡ run.shape
   pub from : first ≤ g.clock v.device
@@ -56,3 +64,4 @@ pub record FollowsRun {D : Type 0} (g : Ghosts D) (origin : Core D) (first : ℕ
   pub trees : CoreIsObservable g v → (page_of_stamp : ℕ → Option PageOfStamp) × (t : Trees) × IsAlong g run v page_of_stamp t
   pub stops : CoreIsObservable g v
       → CrashesSafely (opens_as g run.shape) (λ m c. g.left origin.device m c) (λ m c. g.left v.device m c) first (g.clock v.device) run
+  pub held : CoreIsObservable g v → LastCommitIsHeld g origin run v

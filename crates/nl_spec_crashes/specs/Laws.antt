@@ -14,7 +14,6 @@ use Rattle.nl_meta.specs.Consistent.{PageOfStamp}
 use Rattle.nl_spec_image.specs.Crash.{OpensAsPrefix, Run, with_call, with_sync}
 use Rattle.nl_spec_image.specs.Stands.{ConsistentAs}
 use Rattle.nl_spec_commits.specs.Trees.{StoredOpensAs, Trees, all_at}
-use Rattle.nl_core.specs.Calls.{CommitsAll}
 use Rattle.nl_core.specs.Goes.{PreservesVolume}
 use Rattle.nl_core.specs.Laws.{StoredOpens}
 use Rattle.nl_core.specs.Trees.{CoreRepresentsTree, CoreRepresents, CoreIsObservable}
@@ -40,6 +39,8 @@ pub record TakesEffect {D : Type 0} (g : Ghosts D) (u v : Core D) (x : Call × O
   pub same_shape : g.shape v.device ≡ g.shape u.device
   pub same_clock : g.clock v.device ≡ g.clock u.device
   pub same_number : v.journal.number ≡ u.journal.number
+  pub same_moment : v.moment ≡ u.moment
+  pub same_committed : v.committed ≡ u.committed
   pub left : g.tells → (m : ℕ) (c : g.Crash) → g.left v.device m c → g.left u.device m c
   pub count : v.count ≡ saturated (u.count + 1)
   pub told : CoreIsObservable g v → CoreIsObservable g u
@@ -54,11 +55,11 @@ EffectFollowsRun {D} g =
     → FollowsRun g origin first run u
     → FollowsRun g origin first (with_call run x) v
 
--- A commit of all calls makes them durable from the moment of its commit page on.
+-- A sync is answered with as many calls as are committed, and the moment of the last commit, which may lie before its turn: nothing that a
+-- stop left since that moment has fewer calls.
 abbrev pub SyncFollowsRun : {D : Type 0} → Ghosts D → Type 0
 SyncFollowsRun {D} g =
-    (n number : ℕ) (u v : Core D) (origin : Core D) (first : ℕ) (run : Run) → PreservesVolume g n u v → CommitsAll g u v number
-    → FollowsRun g origin first run u
+    (v : Core D) (origin : Core D) (first : ℕ) (run : Run) → FollowsRun g origin first run v
     → FollowsRun g origin first (with_sync run (record { upto = v.committed; moment = v.moment })) v
 
 -- Where all calls are committed, and what is stored opens as the committed tree, it opens as the tree after all calls of the run.

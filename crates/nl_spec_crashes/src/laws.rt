@@ -4,8 +4,8 @@ ghost use Rattle.nl_spec_crashes.specs.Effects.{StepTakesEffect};
 
 use nl_iface::MovingPages;
 
-/// A volume follows the run of its calls from its opening on: through each call of its core, through the effect of a call, and through
-/// the commit of a sync. So what a stop leaves at any moment was left before, or opens as the tree after the first calls of the run, as
+/// A volume follows the run of its calls from its opening on: through each call of its core, through the effect of a call, and as a sync is
+/// answered with its last commit. So what a stop leaves at any moment was left before, or opens as the tree after the first calls of the run, as
 /// many as the syncs up to that moment made durable and not more than were answered; such an image is consistent as that tree. After a commit
 /// of all calls that left it firm, what is stored opens as the tree after all of them.
 pub fn crashes_follow<D: MovingPages>()

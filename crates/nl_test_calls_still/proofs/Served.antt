@@ -53,6 +53,11 @@ module _ {D : Type 0} (g : Ghosts D) (v : Core D) where
     journaled = c.journaled;
     free = record { count_nodes = c.free.count_nodes; count_pool = c.free.count_pool; nodes = c.free.nodes; pool = c.free.pool };
     held = c.held;
+    counts =
+        let k = c.counts in
+        let latest = k.latest in
+        let few = k.few in
+        record { later = k.later; latest = omega (arith, latest, few); few = omega arith; shut = k.shut };
     flight = c.flight;
     named = c.named;
     stamped = c.stamped;
@@ -80,7 +85,7 @@ module _ {D : Type 0} (g : Ghosts D) (files : ℕ) (call : Call) (u v : Core D) 
 
   pub steps_on : TakesStep g call u (counted v) reply
   steps_on tells page_of_stamp tree at =
-      counted_tree g v page_of_stamp (step_marked (g.shape u.device) tree (call, fault_in reply)).tree (steps_of g call u v reply x.effect x.synced tells page_of_stamp tree at)
+      counted_tree g v page_of_stamp (step_marked (g.shape u.device) tree (call, fault_in reply)).tree (steps_of g call _ u v reply x.effect x.synced tells page_of_stamp tree at)
 
   some_tree : RepresentsSomeTree g (counted v)
   some_tree tells = let k = was.runs tells in let on = steps_on tells k.0 k.1 k.2 in (on.pages, (step_marked (g.shape u.device) k.1 (call, fault_in reply)).tree, on.runs)

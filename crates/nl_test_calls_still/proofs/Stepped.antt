@@ -69,24 +69,19 @@ module _ {D : Type 0} (g : Ghosts D) (call : Call) where
         runs = subst (λ (h : Shape). CoreRepresentsTree g v k.pages (step_marked h tree (call, fault)).tree) x.goes.same_shape on;
       }
 
-  sync_steps : (upto moment : ℕ) (u v : Core D) → call ≡ Sync → Syncs g upto moment u v → Stepped None u v
-  sync_steps upto moment u v is x tells page_of_stamp tree at =
+  sync_steps : (goal upto moment : ℕ) (u v : Core D) → call ≡ Sync → Syncs g goal upto moment u v → Stepped None u v
+  sync_steps goal upto moment u v is x tells page_of_stamp tree at =
       let k = x.goes.runs tells page_of_stamp tree at in
-      let l = x.committing.runs tells k.pages tree k.runs in
       let same : (step_marked (g.shape u.device) tree (call, None)).tree ≡ tree = ap (λ (c : Call). (step_marked (g.shape u.device) tree (c, None)).tree) is ∙ sync_leaves (g.shape u.device) tree in
-      record {
-        pages = l.pages;
-        extends = λ stamp page has. l.extends stamp page (k.extends stamp page has);
-        runs = subst (λ (t : Tree). CoreRepresentsTree g v l.pages t) (sym same) l.runs;
-      }
+      record { pages = k.pages; extends = k.extends; runs = subst (λ (t : Tree). CoreRepresentsTree g v k.pages t) (sym same) k.runs }
 
-  pub steps_of : (u v : Core D) (reply : Reply) → HasEffectOf g call u v reply → is_synced reply ≡ (is_sync_call call && is_none (fault_in reply)) → TakesStep g call u v reply
-  steps_of u v Done x synced = effect_steps None u v x
-  steps_of u v (Count n) x synced = effect_steps None u v x
-  steps_of u v Content x synced = effect_steps None u v x
-  steps_of u v (Names n) x synced = effect_steps None u v x
-  steps_of u v (File size pages) x synced = effect_steps None u v x
-  steps_of u v (Dir entries) x synced = effect_steps None u v x
-  steps_of u v (Synced upto moment) x synced = sync_steps upto moment u v (is_sync_of call (and_left (is_sync_call call) true synced)) x
-  steps_of u v (No refusal) x synced = effect_steps None u v x
-  steps_of u v (Fault fault) x synced = effect_steps (Some fault) u v x
+  pub steps_of : (goal : ℕ) (u v : Core D) (reply : Reply) → HasEffectOf g goal call u v reply → is_synced reply ≡ (is_sync_call call && is_none (fault_in reply)) → TakesStep g call u v reply
+  steps_of goal u v Done x synced = effect_steps None u v x
+  steps_of goal u v (Count n) x synced = effect_steps None u v x
+  steps_of goal u v Content x synced = effect_steps None u v x
+  steps_of goal u v (Names n) x synced = effect_steps None u v x
+  steps_of goal u v (File size pages) x synced = effect_steps None u v x
+  steps_of goal u v (Dir entries) x synced = effect_steps None u v x
+  steps_of goal u v (Synced upto moment) x synced = sync_steps goal upto moment u v (is_sync_of call (and_left (is_sync_call call) true synced)) x
+  steps_of goal u v (No refusal) x synced = effect_steps None u v x
+  steps_of goal u v (Fault fault) x synced = effect_steps (Some fault) u v x

@@ -85,15 +85,17 @@ module _ {D : Type 0} (g : Ghosts D) (s : D) (seen : List Seen) (w : Walked) (fr
     nodes = w.nodes;
     flight = nothing;
     freeing = freeing;
+    leaving = 0;
     count = w.count;
     committed = w.count;
+    frozen = w.count;
     moment = g.clock s;
     stopped = 0;
   }
 
   -- the core is the one that is put together so
   pub made : (shape : Shape) (flight : List InFlight) (moment : ℕ) → shape ≡ g.shape s → flight ≡ nothing → g.clock s ≡ moment
-      → core_over ≡ record { device = s; shape = shape; journal = w.journal; meta = w.meta; nodes = w.nodes; flight = flight; freeing = freeing; count = w.count; committed = w.count; moment = moment; stopped = 0 }
+      → core_over ≡ record { device = s; shape = shape; journal = w.journal; meta = w.meta; nodes = w.nodes; flight = flight; freeing = freeing; leaving = 0; count = w.count; committed = w.count; frozen = w.count; moment = moment; stopped = 0 }
   made shape flight moment is_shape is_flight is_moment = λ i. record {
     device = s;
     shape = (sym is_shape) i;
@@ -102,8 +104,10 @@ module _ {D : Type 0} (g : Ghosts D) (s : D) (seen : List Seen) (w : Walked) (fr
     nodes = w.nodes;
     flight = (sym is_flight) i;
     freeing = freeing;
+    leaving = 0;
     count = w.count;
     committed = w.count;
+    frozen = w.count;
     moment = is_moment i;
     stopped = 0;
   }
@@ -181,7 +185,7 @@ module _ {D : Type 0} (g : Ghosts D) (s : D) (seen : List Seen) (w : Walked) (fr
     stored_runs : g.tells → (v : ℕ) → IsHome (g.shape s).vaddrs v → read_as (g.shape s) (committed_on g s) v ≡ running_on g s w.meta v
     stored_runs tells v home = sym (committed_reads (g.shape s) (g.map s) v idle.volume home.below) ∙ sym (is.same tells v)
 
-    held : IsHeldVolume g s w.journal w.meta [] []
+    held : IsHeldVolume g s w.journal w.meta [] [] 0
     held = opening_is_held g s w.journal w.meta [] (λ p. p.name) (g.found s) idle.volume journaled shut stored_runs idle.table retains opening
 
     space : HasSpace g core_over
@@ -200,13 +204,14 @@ module _ {D : Type 0} (g : Ghosts D) (s : D) (seen : List Seen) (w : Walked) (fr
           room = omega (arith, room);
         }
 
-    pub begun_core : IsCore g core_over
-    begun_core = record {
+    pub begun_core : w.count ≤ top → IsCore g core_over
+    begun_core few = record {
       formed = idle.formed;
       shape = refl;
       journaled = journaled;
       free = free;
-      held = subst (λ (xs : List (Tag × Pointer)). IsHeldVolume g s w.journal w.meta xs freeing.items) (sym nothing_carried) (subst (λ (ps : List Pointer). IsHeldVolume g s w.journal w.meta [] ps) (sym none) held);
+      held = subst (λ (xs : List (Tag × Pointer)). IsHeldVolume g s w.journal w.meta xs freeing.items 0) (sym nothing_carried) (subst (λ (ps : List Pointer). IsHeldVolume g s w.journal w.meta [] ps 0) (sym none) held);
+      counts = record { later = omega arith; latest = omega arith; few = few; shut = λ _. (refl, refl) };
       flight = lines;
       named = λ x has. absurd (subst (λ (xs : List (Tag × Pointer)). Has xs x) nothing_carried has);
       stamped = λ x has. absurd (subst (λ (xs : List (Tag × Pointer)). Has xs x) nothing_carried has);

@@ -201,6 +201,7 @@ fn begin(
 {
     let _ = scan.len();
     lines_stand(&flight);
+    let _count = count_of(&walked);
     device_stands(&still);
     let moment = still.clock();
     let Walked {
@@ -218,11 +219,20 @@ fn begin(
         nodes,
         flight,
         freeing,
+        leaving: 0,
         count,
         committed: count,
+        frozen: count,
         moment,
         stopped: 0,
     }
+}
+
+// The calls that the walked image counts.
+fn count_of(walked: &Walked) -> u64
+    ensures { result ≡ walked.now.count }
+{
+    walked.count
 }
 
 // The lines in flight are in order.

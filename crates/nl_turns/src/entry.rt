@@ -12,7 +12,8 @@ pub enum FaultMark {
     Fault(FaultReply),
 }
 
-/// The numbers of a sync that was answered ok: the count of calls that a stop can no longer lose, and the medium's clock then.
+/// The numbers of a sync that was answered ok: the count of calls that a stop can no longer lose, and the moment of the last commit
+/// page then, by the medium's clock.
 #[derive(Clone, Copy, Debug, PartialEq, Eq)]
 pub enum SyncMark {
     NoSync,
@@ -20,14 +21,14 @@ pub enum SyncMark {
     At { upto: u64, moment: u64 },
 }
 
-/// What one turn did: the effect of a line, the staging of one page of a line, or a background task, which has neither line.
+/// What one turn did: the effect of a line, the staging of one page or unit of a line, or a background task, which has neither line.
 #[derive(Clone, Copy, Debug, PartialEq, Eq)]
 pub struct Entry {
     /// The line whose effect the turn was, or 0.
     pub line: u32,
     /// The line for which the turn staged, or 0.
     pub staged: u32,
-    /// Whether that staging put a page in flight, so that more may be left.
+    /// Whether that staging put a page in flight or did a unit, so that more may be left.
     pub more: bool,
     /// Whether the staging or the background task found a page without the wanted stamp. An effect that finds one tells it by its fault,
     /// and is not counted here.
@@ -37,7 +38,7 @@ pub struct Entry {
 }
 
 impl Entry {
-    /// The entry of a turn that staged a page for a line.
+    /// The entry of a turn that staged for a line.
     pub fn of_stage(line: u32, answer: Stage) -> Entry
         ensures { result ≡ stage_entry line answer }
     {

@@ -29,7 +29,7 @@ pub trait Served: Kept {
     /// The number with which the volume became read-only.
     ghost read_only: { Self → Option ℕ };
 
-    /// How many pages a line of a worker has left to stage, counted by its range alone.
+    /// How much a line of a worker has left to stage at most, in pages and units.
     ghost to_stage: { Self → ℕ → ℕ → ℕ };
 
     /// The number of the last callback since the opening, or 0.
@@ -38,7 +38,7 @@ pub trait Served: Kept {
     /// The free blocks of its physical segment.
     ghost free_blocks: { Self → ℕ };
 
-    /// Stages one whole page of a line ahead of its effect: `Staged`, or why there was none.
+    /// Stages one whole page or one unit of a line ahead of its effect: `Staged`, or why there was none.
     fn stage(&mut self, worker: u8, line: u32, call: &Call) -> Stage
         requires { StandsForSomeWithLine Self.stands self.old worker line call.now }
         ensures stands { FromEachWithLine Self.stands self.old worker line call.now

@@ -16,9 +16,10 @@ use Rattle.nl_tree.proofs.FaultProofs.{fault_laws}
 use Rattle.nl_flight.specs.Flight.{InFlight, begun, of_worker}
 use Rattle.nl_iface.specs.Device.{IsVolumeShape}
 use Rattle.nl_iface.specs.declared.counts.Counts.{Ghosts}
-use Rattle.nl_core.specs.Goes.{PreservesVolume}
+use Rattle.nl_core.specs.Goes.{CommitsOnward}
 use Rattle.nl_core.specs.declared.state.Core.{Core}
-use Rattle.nl_core.proofs.Onward.{goes_then}
+use Rattle.nl_core.proofs.Counts.{onward_as, onward_then}
+use Rattle.nl_core.specs.Units.{goal_of, goal_or}
 use Rattle.nl_calls_steps.proofs.Stepping.{steps_run}
 use Rattle.nl_calls_steps.specs.Calls.{MakesTree, counts_of}
 use Rattle.nl_spec_crashes.specs.Effects.{counted}
@@ -29,19 +30,19 @@ use Rattle.nl_turns.specs.declared.entry.SyncMark.TheVariants.{NoSync, At}
 use Rattle.nl_calls.specs.Answering.{MakesEffect, HasEffectOf, Syncs, is_sync_call, is_synced}
 use Rattle.nl_volume.specs.Effects.{AnswersLine}
 use Rattle.nl_volume_stage.specs.Serving.{refusing_of, some_number, staged_fault}
-use Rattle.nl_volume_stage.specs.Standing.{FlightIsOfLines, IsInFlight, FaultReplyHasCause, NumbersDiffer, Serves, RepresentsHistory}
+use Rattle.nl_volume_stage.specs.Standing.{FlightIsOfLines, GoalsAreKept, IsGoal, IsInFlight, FaultReplyHasCause, NumbersDiffer, Serves, RepresentsHistory}
 use Rattle.nl_volume_stage.specs.Turns.{AreCounts}
 use Rattle.nl_volume_stage.proofs.Causes.{still_cause}
 use Rattle.nl_volume_stage.proofs.Due.{IsRefused, due_cases, marked, within_since}
-use Rattle.nl_volume_stage.proofs.Effects.{effect_serves, sync_serves}
+use Rattle.nl_volume_stage.proofs.Effects.{count_so_far, effect_serves, sync_serves}
 use Rattle.nl_volume_stage.proofs.Flights.{KeepsPages, goes_keeps, one_on, same_fault}
-use Rattle.nl_volume_stage.proofs.Histories.{has_or_last, pairs_more}
+use Rattle.nl_volume_stage.proofs.Histories.{effects_more, goal_more, has_or_last, pairs_more}
 use Rattle.nl_volume_stage.proofs.Serving.{runs_of, some_is}
 use Rattle.nl_volume_stage.proofs.Standing.{calls_serve}
 
 -- ---- what an effect keeps
 
-module _ {D : Type 0} (g : Ghosts D) (call : Call) (u w : Core D) where
+module _ {D : Type 0} (g : Ghosts D) (goal : ℕ) (call : Call) (u w : Core D) where
   effect_keeps : (fault : Option FaultReply) → MakesEffect g call fault u w → KeepsPages g u w
   effect_keeps fault x =
       let m = x.steps.reads.medium in
@@ -59,17 +60,14 @@ module _ {D : Type 0} (g : Ghosts D) (call : Call) (u w : Core D) where
             );
       }
 
-  syncs_goes : (upto moment : ℕ) (x : Syncs g upto moment u w) → PreservesVolume g (x.before + x.most) u w
-  syncs_goes upto moment x = goes_then g u x.between w x.before x.most x.goes x.committing
-
-  pub effect_of_keeps : (reply : Reply) → HasEffectOf g call u w reply → KeepsPages g u w
+  pub effect_of_keeps : (reply : Reply) → HasEffectOf g goal call u w reply → KeepsPages g u w
   effect_of_keeps Done x = effect_keeps None x
   effect_of_keeps (Count n) x = effect_keeps None x
   effect_of_keeps Content x = effect_keeps None x
   effect_of_keeps (Names n) x = effect_keeps None x
   effect_of_keeps (File size pages) x = effect_keeps None x
   effect_of_keeps (Dir entries) x = effect_keeps None x
-  effect_of_keeps (Synced upto moment) x = goes_keeps g (x.before + x.most) u w (syncs_goes upto moment x)
+  effect_of_keeps (Synced upto moment) x = goes_keeps g x.most u w x.goes
   effect_of_keeps (No refusal) x = effect_keeps None x
   effect_of_keeps (Fault fault) x = effect_keeps (Some fault) x
 
@@ -77,16 +75,32 @@ module _ {D : Type 0} (g : Ghosts D) (call : Call) (u w : Core D) where
   effect_stopped : (fault : Option FaultReply) → MakesEffect g call fault u w → (u.stopped ≡ 0 → ⊥) → w.stopped ≡ u.stopped
   effect_stopped fault x off = ap (λ (c : Core D). c.stopped) x.steps.others ∙ x.goes.stops.stands off
 
-  pub stays_stopped : (reply : Reply) → HasEffectOf g call u w reply → (u.stopped ≡ 0 → ⊥) → w.stopped ≡ u.stopped
+  pub stays_stopped : (reply : Reply) → HasEffectOf g goal call u w reply → (u.stopped ≡ 0 → ⊥) → w.stopped ≡ u.stopped
   stays_stopped Done x = effect_stopped None x
   stays_stopped (Count n) x = effect_stopped None x
   stays_stopped Content x = effect_stopped None x
   stays_stopped (Names n) x = effect_stopped None x
   stays_stopped (File size pages) x = effect_stopped None x
   stays_stopped (Dir entries) x = effect_stopped None x
-  stays_stopped (Synced upto moment) x = (syncs_goes upto moment x).stops.stands
+  stays_stopped (Synced upto moment) x = x.goes.stops.stands
   stays_stopped (No refusal) x = effect_stopped None x
   stays_stopped (Fault fault) x = effect_stopped (Some fault) x
+
+  -- what is committed does not fall, and no sync has more left
+  effect_onward : (fault : Option FaultReply) → MakesEffect g call fault u w → CommitsOnward u w
+  effect_onward fault x = onward_then u x.between w x.goes.count x.goes.onward
+      (onward_as x.between w (ap (λ (c : Core D). c.committed) x.steps.others) (ap (λ (c : Core D). c.frozen) x.steps.others) (ap (λ (c : Core D). c.journal) x.steps.others) x.steps.pages.same_frozen)
+
+  pub goes_onward : (reply : Reply) → HasEffectOf g goal call u w reply → CommitsOnward u w
+  goes_onward Done x = effect_onward None x
+  goes_onward (Count n) x = effect_onward None x
+  goes_onward Content x = effect_onward None x
+  goes_onward (Names n) x = effect_onward None x
+  goes_onward (File size pages) x = effect_onward None x
+  goes_onward (Dir entries) x = effect_onward None x
+  goes_onward (Synced upto moment) x = x.goes.onward
+  goes_onward (No refusal) x = effect_onward None x
+  goes_onward (Fault fault) x = effect_onward (Some fault) x
 
 -- ---- calls and marks
 
@@ -139,8 +153,12 @@ module _ {D : Type 0} (g : Ghosts D) (origin : Core D) (o : Opening) (h : List E
   abbrev e : Entry
   e = effect_entry line reply
 
+  -- the goal that it has as a sync
+  abbrev goal : ℕ
+  goal = goal_or (goal_of u.flight worker line) u.count
+
   keeps : KeepsPages g u w
-  keeps = effect_of_keeps g call u w reply x.effect
+  keeps = effect_of_keeps g goal call u w reply x.effect
 
   pub later : NeverFall (counts_of g u.device) (counts_of g w.device)
   later = keeps.later
@@ -274,7 +292,7 @@ module _ {D : Type 0} (g : Ghosts D) (origin : Core D) (o : Opening) (h : List E
           from (inr (changing, inl k)) =
               let m : k.0 ≡ n = cc (sym k.2) in
               let is = some_is u.stopped k.0 k.1 in
-              let same = stays_stopped g call u w reply x.effect is.0 in
+              let same = stays_stopped g goal call u w reply x.effect is.0 in
               (sym (same ∙ (is.1 ∙ m)), λ none. is.0 (sym same ∙ none))
           from (inr (changing, inr k)) = absurd (cc k.0)
 
@@ -307,7 +325,7 @@ module _ {D : Type 0} (g : Ghosts D) (origin : Core D) (o : Opening) (h : List E
         (cases_eq k' worker))
         (cases_eq k worker);
     one = λ y n has is. ⊎_elim
-        (λ was. let k = s.numbers.one y n was is in let same = stays_stopped g call u w reply x.effect k.1 in (k.0 ∙ sym same, λ none. k.1 (sym same ∙ none)))
+        (λ was. let k = s.numbers.one y n was is in let same = stays_stopped g goal call u w reply x.effect k.1 in (k.0 ∙ sym same, λ none. k.1 (sym same ∙ none)))
         (λ at. read_only_number n (ap erofs_of (sym (marked reply)) ∙ subst (λ (z : Entry). erofs_of (fault_of z.fault) ≡ Some n) (sym at) is))
         (has_or_last h e y has);
   }
@@ -337,19 +355,13 @@ module _ {D : Type 0} (g : Ghosts D) (origin : Core D) (o : Opening) (h : List E
       (subst (λ (f : Option FaultReply). MakesTree g y.between w (call, f)) is y.makes) none
       ((λ i. sync_is call i && is_none (marks i)) ∙ (sym x.synced ∙ plain))
 
-  sync_serves_then : (upto moment : ℕ) → reply ≡ Synced upto moment → Syncs g upto moment u w → Serves g origin o (h ++ e ∷ []) (counted w) (saturated (done + 1))
+  sync_serves_then : (upto moment : ℕ) → reply ≡ Synced upto moment → Syncs g goal upto moment u w → Serves g origin o (h ++ e ∷ []) (counted w) (saturated (done + 1))
   sync_serves_then upto moment is y =
-      let counts = y.committing in
-      let clock = counts.clock in
-      let writes = counts.writes in
-      let end = most in
-      let between : AreCounts g y.between = record { clock = let c = end.clock in omega (arith, clock, c); write_faults = let n = end.write_faults in omega (arith, writes, n) } in
-      let t = calls_serve g origin o h u y.between done s.serves (record { core = y.core; counts = between; most = y.before; goes = y.goes }) in
       let call_is : call ≡ Sync = is_sync_of call (and_left (is_sync_call call) (is_none (fault_in reply)) (ap is_synced (sym is) ∙ x.synced)) in
-      sync_serves g origin o h y.between w done y.number e t (record { core = x.core; counts = most; most = y.most; goes = y.committing }) y.commits volume
+      sync_serves g origin o h u w done worker e s (record { core = x.core; counts = most; most = y.most; goes = y.goes }) y.reached volume
       has_line (at_line ∙ ap Some call_is) (ap (λ r. fault_of (fault_mark r)) is) (ap sync_mark is ∙ (λ i. At (y.upto_is i) (y.moment_is i)))
 
-  line_serves : (r : Reply) → reply ≡ r → HasEffectOf g call u w r → Serves g origin o (h ++ e ∷ []) (counted w) (saturated (done + 1))
+  line_serves : (r : Reply) → reply ≡ r → HasEffectOf g goal call u w r → Serves g origin o (h ++ e ∷ []) (counted w) (saturated (done + 1))
   line_serves Done is y = plain_serves None (ap (λ r. fault_of (fault_mark r)) (sym is)) (ap is_synced is) (ap sync_mark is) y
   line_serves (Count n) is y = plain_serves None (ap (λ r. fault_of (fault_mark r)) (sym is)) (ap is_synced is) (ap sync_mark is) y
   line_serves Content is y = plain_serves None (ap (λ r. fault_of (fault_mark r)) (sym is)) (ap is_synced is) (ap sync_mark is) y
@@ -360,5 +372,36 @@ module _ {D : Type 0} (g : Ghosts D) (origin : Core D) (o : Opening) (h : List E
   line_serves (No refusal) is y = plain_serves None (ap (λ r. fault_of (fault_mark r)) (sym is)) (ap is_synced is) (ap sync_mark is) y
   line_serves (Fault fault) is y = plain_serves (Some fault) (ap (λ r. fault_of (fault_mark r)) (sym is)) (ap is_synced is) (ap sync_mark is) y
 
+  -- ---- the goals in flight
+
+  more_calls : u.count ≤ saturated (w.count + 1)
+  more_calls =
+      let now = count_so_far g origin o (h ++ e ∷ []) (counted w) (saturated (done + 1)) (line_serves reply refl x.effect) in
+      let was = count_so_far g origin o h u done s.serves in
+      let more = effects_more h e in
+      omega (arith, now, was, more)
+
+  goals_then : GoalsAreKept o (h ++ e ∷ []) (saturated (w.count + 1)) w.flight
+  goals_then k = by (cases_eq k worker)
+    where
+      longer : (line' : ℕ) (y : Option ℕ) → IfSome y (IsGoal o h u.count line') → IfSome y (IsGoal o (h ++ e ∷ []) (saturated (w.count + 1)) line')
+      longer line' None is = tt
+      longer line' (Some n) is =
+          let k = goal_more o h e u.count line' n is in
+          let to = k.not_beyond in
+          let all = more_calls in
+          record { begun = k.begun; staged = k.staged; not_below_begin = k.not_below_begin; not_beyond = omega (arith, to, all) }
+
+      by : (k ≡ worker) ⊎ (k ≢ worker) → IfSome (of_worker w.flight k).goal (IsGoal o (h ++ e ∷ []) (saturated (w.count + 1)) (of_worker w.flight k).line)
+      by (inl here) =
+          let none : (of_worker w.flight k).goal ≡ None = ap (λ (y : InFlight). y.goal) (ap (of_worker w.flight) here ∙ x.ended.idle) in
+          subst (λ (y : Option ℕ). IfSome y (IsGoal o (h ++ e ∷ []) (saturated (w.count + 1)) (of_worker w.flight k).line)) (sym none) tt
+      by (inr far) =
+          let alike = x.ended.others k far in
+          let goal_is : (of_worker w.flight k).goal ≡ (of_worker u.flight k).goal = ap (λ (y : InFlight). y.goal) alike in
+          let line_is : (of_worker w.flight k).line ≡ (of_worker u.flight k).line = ap (λ (y : InFlight). y.line) alike in
+          subst (λ (y : Option ℕ). IfSome y (IsGoal o (h ++ e ∷ []) (saturated (w.count + 1)) (of_worker w.flight k).line)) (sym goal_is)
+          (subst (λ l. IfSome (of_worker u.flight k).goal (IsGoal o (h ++ e ∷ []) (saturated (w.count + 1)) l)) (sym line_is) (longer (of_worker u.flight k).line (of_worker u.flight k).goal (s.goals k)))
+
   pub line_stands : RepresentsHistory g origin o (h ++ e ∷ []) (counted w) (saturated (done + 1))
-  line_stands = record { serves = line_serves reply refl x.effect; flight = flight_then; numbers = numbers_then }
+  line_stands = record { serves = line_serves reply refl x.effect; flight = flight_then; goals = goals_then; numbers = numbers_then }

@@ -1,6 +1,6 @@
 -- A volume that was opened stands for its opening and no turn.
 use Rattle.std.proofs.Common.{◌≡◌, ◌≢◌, inl, inr, ℕ, zero, suc, ◌≤◌, Bool, true, false, cond, List, [], length, Option, replicate, refl, sym, ap, subst, ◌∙◌, arith}
-use Rattle.std.specs.Prelude.{nat_lt}
+use Rattle.std.specs.Prelude.{nat_lt, IfSome}
 use Rattle.nl_field.specs.CrashStates.{top}
 use Rattle.nl_field.specs.Members as members
 use Rattle.nl_tree.specs.Tree.{Tree}
@@ -18,7 +18,7 @@ use Rattle.nl_spec_crashes.specs.Along.{FollowsRun}
 use Rattle.nl_spec_crashes.proofs.Along.{opening_goes_along}
 use Rattle.nl_turns.specs.History.{Opening, marked_calls, syncs_of}
 use Rattle.nl_volume.specs.Opening.{opening_of}
-use Rattle.nl_volume_stage.specs.Standing.{EachIsLine, RepresentsHistory, run_of}
+use Rattle.nl_volume_stage.specs.Standing.{EachIsLine, IsGoal, RepresentsHistory, run_of}
 
 no_calls : (o : Opening) → marked_calls o [] ≡ []
 unfolding marked_calls
@@ -70,11 +70,15 @@ module _ {D : Type 0} (g : Ghosts D) (v : Core D) (tree : Tree) (lines : List Li
       moments = record {
         begins = let same = opened.moment in omega (arith, same);
         ends = let same = opened.moment in omega (arith, same);
+        since = inr opened.committed;
+        not_below = let same = opened.committed in omega (arith, same);
         rising = λ i j d low high. absurd (let none = ap length no_syncs in let off : ⊥ = omega (arith, high, none) in off);
         within = λ s has. absurd (subst (λ xs. members.Has xs s) no_syncs has);
       };
     };
     flight = λ worker. let none = ap (λ (f : List InFlight). of_worker f worker) opened.flight ∙ none_flies worker in inl (ap (λ (x : InFlight). x.line) none, ap (λ (x : InFlight). x.fault) none);
+    goals = λ worker. let none = ap (λ (x : InFlight). x.goal) (ap (λ (f : List InFlight). of_worker f worker) opened.flight ∙ none_flies worker) in
+        subst (λ (x : Option ℕ). IfSome x (IsGoal o [] v.count (of_worker v.flight worker).line)) (sym none) tt;
     numbers = record {
       past = λ i j d low high. absurd (let off : ⊥ = omega (arith, high) in off);
       kept = λ worker e n none. absurd none;

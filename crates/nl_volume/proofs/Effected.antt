@@ -14,7 +14,6 @@ use Rattle.nl_iface.specs.Device.{IsVolumeShape}
 use Rattle.nl_iface.specs.declared.counts.Counts.{Ghosts}
 use Rattle.nl_core.specs.Core.{IsCore}
 use Rattle.nl_core.specs.declared.state.Core.{Core}
-use Rattle.nl_core.proofs.Onward.{goes_then}
 use Rattle.nl_spec_crashes.specs.Effects.{counted}
 use Rattle.nl_turns.specs.History.{Opening, tree_after}
 use Rattle.nl_turns.specs.Served.{IsLineOf, StaysReadOnly, effect_entry, ordinal_due, outcome_due, place_due}
@@ -25,14 +24,15 @@ use Rattle.nl_calls_steps.specs.Calls.{counts_of}
 use Rattle.nl_volume_stage.specs.Serving.{refusing_of, some_number, to_stage_of}
 use Rattle.nl_volume_stage.specs.Standing.{RepresentsHistory}
 use Rattle.nl_volume_stage.specs.Turns.{AreCounts}
-use Rattle.nl_volume.proofs.Answering.{line_stands}
+use Rattle.nl_core.specs.Units.{goal_of, goal_or}
+use Rattle.nl_volume.proofs.Answering.{goes_onward, line_stands}
 use Rattle.nl_volume_stage.proofs.Due.{marked}
 use Rattle.nl_volume_stage.proofs.Histories.{calls_length}
-use Rattle.nl_volume_stage.proofs.Serving.{staged_same, stays_read_only, to_stage_same}
+use Rattle.nl_volume_stage.proofs.Serving.{GoalsWithin, staged_same, stays_read_only, to_stage_less}
 
 -- ---- a volume becomes read-only only where a write failed
 
-module _ {D : Type 0} (g : Ghosts D) (call : Call) (u w : Core D) (core : IsCore g u) where
+module _ {D : Type 0} (g : Ghosts D) (goal : ℕ) (call : Call) (u w : Core D) (core : IsCore g u) where
   effect_read_only : (fault : Option FaultReply) → MakesEffect g call fault u w → StaysReadOnly (counts_of g u.device) (counts_of g w.device) (some_number u.stopped) (some_number w.stopped)
   effect_read_only fault x =
       let m = x.steps.reads.medium in
@@ -50,20 +50,20 @@ module _ {D : Type 0} (g : Ghosts D) (call : Call) (u w : Core D) (core : IsCore
         always = λ low. subst (λ (o : Option ℕ). IsSome o) (sym same) (k.always (omega (arith, low, writes)));
       }
 
-  pub stays_read : (reply : Reply) → HasEffectOf g call u w reply → StaysReadOnly (counts_of g u.device) (counts_of g w.device) (some_number u.stopped) (some_number w.stopped)
+  pub stays_read : (reply : Reply) → HasEffectOf g goal call u w reply → StaysReadOnly (counts_of g u.device) (counts_of g w.device) (some_number u.stopped) (some_number w.stopped)
   stays_read Done x = effect_read_only None x
   stays_read (Count n) x = effect_read_only None x
   stays_read Content x = effect_read_only None x
   stays_read (Names n) x = effect_read_only None x
   stays_read (File size pages) x = effect_read_only None x
   stays_read (Dir entries) x = effect_read_only None x
-  stays_read (Synced upto moment) x = stays_read_only g (x.before + x.most) u w core (goes_then g u x.between w x.before x.most x.goes x.committing)
+  stays_read (Synced upto moment) x = stays_read_only g x.most u w core x.goes
   stays_read (No refusal) x = effect_read_only None x
   stays_read (Fault fault) x = effect_read_only (Some fault) x
 
 module _ {D : Type 0} (g : Ghosts D) (u w : Core D) (worker line : ℕ) (call : Call) (reply : Reply) (out : List ℕ) (files : ℕ) (x : AnswersLine g worker line call u w reply out files) where
-  pub line_less : (k l : ℕ) → k ≢ worker → to_stage_of w.flight k l ≤ to_stage_of u.flight k l
-  line_less k l far = let same = to_stage_same u.flight w.flight k l (x.ended.others k far) in omega (arith, same)
+  pub line_less : GoalsWithin u → (k l : ℕ) → k ≢ worker → to_stage_of w k l ≤ to_stage_of u k l
+  line_less within k l far = to_stage_less u w (goes_onward g (goal_or (goal_of u.flight worker line) u.count) call u w reply x.effect) within k l (x.ended.others k far)
 
   pub line_staged : (k l : ℕ) → k ≢ worker → (refusing_of g w k l).staged ≡ (refusing_of g u k l).staged
   line_staged k l far = staged_same u.flight w.flight k l (x.ended.others k far)

@@ -6,8 +6,9 @@ use Rattle.nl_tree.specs.declared.reply.Reply.{Reply}
 use Rattle.nl_iface.specs.declared.counts.Counts.{Ghosts}
 use Rattle.nl_iface.specs.declared.moving_pages.MovingPages.{Ghosts as Moving}
 use Rattle.nl_core.specs.Core.{IsCore}
+use Rattle.nl_core.specs.Units.{goal_of, goal_or}
 use Rattle.nl_core.specs.declared.state.Core.{Core}
-use Rattle.nl_calls.specs.Answering.{AnswersOn, RunsReclaimPass, EndsLine, HasEffectOf, is_sync_call, is_synced, pages_of_files}
+use Rattle.nl_calls.specs.Answering.{AnswersOn, RunsReclaimPass, EndsLine, HasEffectOf, IsReachedSync, is_sync_call, is_synced, pages_of_files}
 use Rattle.nl_calls_steps.specs.Calls.{counts_of}
 use Rattle.nl_volume_stage.specs.Serving.{refusing_of}
 use Rattle.nl_spec_crashes.specs.Effects.{counted}
@@ -16,7 +17,7 @@ use Rattle.nl_spec_crashes.specs.Effects.{counted}
 -- a sync without a fault has the numbers of one. The worker has no line afterwards, and files have so many pages.
 pub record AnswersLine {D : Type 0} (g : Ghosts D) (worker line : ℕ) (call : Call) (old new : Core D) (reply : Reply) (out : List ℕ) (files : ℕ) : Type 0 where
   pub core : IsCore g new
-  pub effect : HasEffectOf g call old new reply
+  pub effect : HasEffectOf g (goal_or (goal_of old.flight worker line) old.count) call old new reply
   pub answers : AnswersOn g call old reply out
   pub due : FaultIsDue g.tells (refusing_of g old worker line) (counts_of g old.device) (counts_of g new.device) call reply
   pub synced : is_synced reply ≡ (is_sync_call call && is_none (fault_in reply))
@@ -30,3 +31,7 @@ CleansAndCounts {D} g m old new = (between : Core D) × RunsReclaimPass g m old 
 -- The call only looks, or the volume is read-only or worn.
 abbrev pub CannotChange : {D : Type 0} → Ghosts D → Call → Core D → Type 0
 CannotChange g call v = (is_changing call ≡ false) ⊎ (v.stopped ≢ 0) ⊎ (2 ^ 62 ≤ g.next_stamp v.device)
+
+-- The call needs no write: it cannot change anything, or it is a sync whose goal is committed.
+abbrev pub NeedsNoWrite : {D : Type 0} → Ghosts D → ℕ → ℕ → Call → Core D → Type 0
+NeedsNoWrite g worker line call v = CannotChange g call v ⊎ IsReachedSync call (goal_or (goal_of v.flight worker line) v.count) v

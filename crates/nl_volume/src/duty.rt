@@ -32,7 +32,7 @@ impl<M: Nand> Volume<M> {
             which self.old.core self.new.core result }
         ensures counts { NeverFall (counts_of ⟦<Device<M> as Counts>⟧ self.old.core.device)
             (counts_of ⟦<Device<M> as Counts>⟧ self.new.core.device) }
-        ensures less { NoMoreToStage (to_stage_of self.old.core.flight) (to_stage_of self.new.core.flight) }
+        ensures less { NoMoreToStage (to_stage_of self.old.core) (to_stage_of self.new.core) }
         ensures read_only { StaysReadOnly (counts_of ⟦<Device<M> as Counts>⟧ self.old.core.device)
             (counts_of ⟦<Device<M> as Counts>⟧ self.new.core.device) (some_number self.old.core.stopped)
             (some_number self.new.core.stopped) }

@@ -7,7 +7,7 @@ ghost use Rattle.nl_turns.specs.Served.{FaultHasCause, FromEachWithLine, StandsF
 ghost use Rattle.nl_core.specs.LastCommit.{KeepsCommit, LeavesMedium};
 ghost use Rattle.nl_calls.specs.Answering.{EndsLine, RunsReclaimPass, pages_of_files};
 ghost use Rattle.nl_calls.specs.Commits.{NeedsNoCommit};
-ghost use Rattle.nl_volume.specs.Effects.{AnswersLine, CannotChange, CleansAndCounts};
+ghost use Rattle.nl_volume.specs.Effects.{AnswersLine, CleansAndCounts, NeedsNoWrite};
 ghost use Rattle.nl_calls_steps.specs.Calls.{counts_of};
 ghost use Rattle.nl_volume_stage.specs.Serving.{refusing_of, some_number, to_stage_of};
 ghost use Rattle.nl_volume_stage.specs.Staging.{RepresentsWithLine};
@@ -30,16 +30,18 @@ impl<M: Nand> Volume<M> {
     /// bytes that belong to it in the buffer. A line whose staging failed is answered with that number; one that changes something is
     /// refused on a volume that is read-only or worn; else a fault comes only of what failed within. Pages in flight of another line of the
     /// worker are freed first, and nothing of the worker is in flight afterwards; lines of other workers stay. A call for cleaning that is
-    /// done did a round of reclaiming. Nothing is committed but by a sync, by a call for cleaning, and where there is no room for the pages
-    /// that the call makes dirty or programs. A call that only looks leaves the medium and the last commit as they are; so does each call
-    /// on a volume that is read-only or worn.
+    /// done did a round of reclaiming. A sync does the units that are left until its goal is committed, which its stagings fixed and is else
+    /// all calls before it; it tells how many calls are committed then, and the moment of that commit page. Nothing is committed but by a
+    /// sync, by a call for cleaning, and where there is no room for the pages that the call makes dirty or programs. A call that only looks
+    /// leaves the medium and the last commit as they are, and so does a sync whose goal is committed; so does each call on a volume that is
+    /// read-only or worn.
     pub fn effect(&mut self, worker: u8, line: u32, call: &Call, out: &mut ReplyBuf) -> Answered
         requires { StandsForSomeWithLine ⟦<Volume<M> as Kept>⟧.stands self.old worker line call.now }
         ensures stands { FromEachWithLine ⟦<Volume<M> as Kept>⟧.stands self.old worker line call.now
             (λ v o h. ⟦<Volume<M> as Kept>⟧.stands v o (h ++ effect_entry line result.reply ∷ []) self.new) }
         ensures counts { NeverFall (counts_of ⟦<Device<M> as Counts>⟧ self.old.core.device)
             (counts_of ⟦<Device<M> as Counts>⟧ self.new.core.device) }
-        ensures less { (w : ℕ) (l : ℕ) → w ≢ worker → to_stage_of self.new.core.flight w l ≤ to_stage_of self.old.core.flight w l }
+        ensures less { (w : ℕ) (l : ℕ) → w ≢ worker → to_stage_of self.new.core w l ≤ to_stage_of self.old.core w l }
         ensures ended { EndsLine worker self.old.core.flight self.new.core.flight }
         ensures read_only { StaysReadOnly (counts_of ⟦<Device<M> as Counts>⟧ self.old.core.device)
             (counts_of ⟦<Device<M> as Counts>⟧ self.new.core.device) (some_number self.old.core.stopped)
@@ -61,7 +63,7 @@ impl<M: Nand> Volume<M> {
         ensures cleaned { call.now ≡ Clean → result.reply ≡ Reply.Done → CleansAndCounts ⟦<Device<M> as Counts>⟧
             (moving ⟦<Device<M> as MovingPages>⟧.victim ⟦<Device<M> as MovingPages>⟧.most_dead ⟦<Device<M> as MovingPages>⟧.coldest ⟦<Device<M> as MovingPages>⟧.blank)
             self.old.core self.new.core }
-        ensures kept { CannotChange ⟦<Device<M> as Counts>⟧ call.now self.old.core
+        ensures kept { NeedsNoWrite ⟦<Device<M> as Counts>⟧ worker line call.now self.old.core
             → LeavesMedium ⟦<Device<M> as Counts>⟧ self.old.core self.new.core }
         ensures commit { NeedsNoCommit ⟦<Device<M> as Counts>⟧ call.now self.old.core → KeepsCommit self.old.core self.new.core }
         ensures wear { (self.new.least ≡ self.old.least) × (self.new.greatest ≡ self.old.greatest) }
@@ -105,7 +107,7 @@ fn answer<D: MovingPages>(
     requires nothing { out.old ≡ [] }
     ensures answers { AnswersLine D.Counts worker line call.now core.old core.new result.reply out.new result.files }
     ensures cleaned { call.now ≡ Clean → result.reply ≡ Reply.Done → RunsReclaimPass D.Counts D.MovingPages.own core.old core.new }
-    ensures kept { CannotChange D.Counts call.now core.old → LeavesMedium D.Counts core.old core.new }
+    ensures kept { NeedsNoWrite D.Counts worker line call.now core.old → LeavesMedium D.Counts core.old core.new }
     ensures commit { NeedsNoCommit D.Counts call.now core.old → KeepsCommit core.old core.new }
 {
     match refusal(core, worker, line, call) {
@@ -137,7 +139,7 @@ fn try_line<D: MovingPages>(
     requires tried { fault_due (refusing_of D.Counts core.old worker line) call.now ≡ None }
     ensures answers { AnswersLine D.Counts worker line call.now core.old core.new result.reply out.new result.files }
     ensures cleaned { call.now ≡ Clean → result.reply ≡ Reply.Done → RunsReclaimPass D.Counts D.MovingPages.own core.old core.new }
-    ensures kept { CannotChange D.Counts call.now core.old → LeavesMedium D.Counts core.old core.new }
+    ensures kept { NeedsNoWrite D.Counts worker line call.now core.old → LeavesMedium D.Counts core.old core.new }
     ensures commit { NeedsNoCommit D.Counts call.now core.old → KeepsCommit core.old core.new }
 {
     leave_other(core, worker, line);

@@ -19,7 +19,7 @@ impl<M: Nand> Served for Volume<M> {
 
     ghost read_only = { λ v. some_number v.core.stopped };
 
-    ghost to_stage = { λ v. to_stage_of v.core.flight };
+    ghost to_stage = { λ v. to_stage_of v.core };
 
     ghost posted = { λ v. (⟦<Device<M> as Counts>⟧.names v.core.device).posted };
 

@@ -1,9 +1,10 @@
 -- A volume goes on to serve as a call takes effect.
-use Rattle.std.proofs.Common.{◌≡◌, ⊎_elim, ℕ, ◌+◌, ◌≤◌, true, false, cond, ◌&&◌, List, [], ◌∷◌, ◌++◌, length, Option, Some, None, refl, sym, ap, subst, ◌∙◌, arith}
+use Rattle.std.proofs.Common.{◌≡◌, ◌≢◌, ◌⊎◌, inl, inr, eq-eqb, ne_eqb, ⊎_elim, ℕ, ◌+◌, ◌≤◌, take, true, false, cond, ◌&&◌, List, [], ◌∷◌, ◌++◌, length, Option, Some, None, refl, sym, ap, subst, ◌∙◌, arith}
 use Rattle.std.specs.Prelude.{IfSome, is_none, is_some}
-use Rattle.std.proofs.lemmas.Bool.{cases_lt}
+use Rattle.std.proofs.lemmas.Bool.{cases_eq}
+use Rattle.nl_flight.specs.Flight.{of_worker}
 use Rattle.std.proofs.lemmas.List.{append-nil}
-use Rattle.nl_field.specs.CrashStates.{Earlier, saturated, top}
+use Rattle.nl_field.specs.CrashStates.{saturated, top}
 use Rattle.nl_field.specs.declared.shape.Shape.{Shape}
 use Rattle.nl_tree.specs.Causes.{HasCause, IsSumSince, NeverFall}
 use Rattle.nl_tree.specs.Order.{SyncPoint}
@@ -21,8 +22,8 @@ use Rattle.nl_meta.proofs.PageProofs.{none as changes_none}
 use Rattle.nl_meta_running.proofs.Holds.{reads-none}
 use Rattle.nl_spec_image.specs.Crash.{Run, with_call, with_sync}
 use Rattle.nl_spec_commits.specs.Trees.{RepresentsTree}
-use Rattle.nl_core.specs.Calls.{CommitsAll}
 use Rattle.nl_core.specs.Core.{IsCore, running_of}
+use Rattle.nl_core.specs.Units.{goal_of, goal_or}
 use Rattle.nl_core.specs.declared.state.Core.{Core}
 use Rattle.nl_calls_steps.specs.Steps.{Steps}
 use Rattle.nl_spec_crashes.specs.Along.{FollowsRun}
@@ -30,14 +31,14 @@ use Rattle.nl_calls_steps.specs.Calls.{MakesTree, counts_of}
 use Rattle.nl_spec_crashes.specs.Effects.{counted}
 use Rattle.nl_spec_crashes.proofs.Along.{effect_goes_along, sync_goes_along}
 use Rattle.nl_spec_crashes.proofs.Effects.{step_takes_effect}
-use Rattle.nl_turns.specs.History.{IsKnown, IsSyncInRange, Opening, call_at, call_of, effects, fault_of, is_effect, is_sync, marked_calls, opening_counts, sync_of, syncs_of}
+use Rattle.nl_turns.specs.History.{IsKnown, IsSyncInRange, Opening, begun_at, call_at, call_of, effects, fault_of, is_effect, is_sync, marked_calls, opening_counts, sync_of, syncs_of}
 use Rattle.nl_turns.specs.declared.entry.Entry.{Entry}
 use Rattle.nl_turns.specs.declared.entry.SyncMark.{SyncMark}
 use Rattle.nl_turns.specs.declared.entry.SyncMark.TheVariants.{NoSync, At}
-use Rattle.nl_volume_stage.specs.Standing.{FaultReplyHasCause, MomentsRise, Serves, run_of}
+use Rattle.nl_volume_stage.specs.Standing.{FaultReplyHasCause, IsGoal, IsSinceOpening, MomentsRise, RepresentsHistory, Serves, run_of}
 use Rattle.nl_volume_stage.proofs.Causes.{later_then, still_cause, still_failed}
 use Rattle.nl_volume_stage.specs.Turns.{PreservesCore}
-use Rattle.nl_volume_stage.proofs.Histories.{calls_length, calls_more, effects_more, has_or_last, last_in_range, no_sync, one_call, one_sync, pairs_more, syncs_in_range, syncs_more}
+use Rattle.nl_volume_stage.proofs.Histories.{begun_is, calls_length, calls_more, effects_more, effects_within, has_or_last, last_in_range, no_sync, one_call, one_sync, pairs_more, syncs_in_range, syncs_more}
 use Rattle.nl_volume_stage.proofs.Standing.{calls_serve}
 
 -- ---- the count is no part of what a core is
@@ -50,6 +51,11 @@ module _ {D : Type 0} (g : Ghosts D) (v : Core D) (c : IsCore g v) where
     journaled = c.journaled;
     free = record { count_nodes = c.free.count_nodes; count_pool = c.free.count_pool; nodes = c.free.nodes; pool = c.free.pool };
     held = c.held;
+    counts =
+        let k = c.counts in
+        let latest = k.latest in
+        let few = k.few in
+        record { later = k.later; latest = omega (arith, latest, few); few = omega arith; shut = k.shut };
     flight = c.flight;
     named = c.named;
     stamped = c.stamped;
@@ -93,6 +99,9 @@ module _ {D : Type 0} (g : Ghosts D) (origin : Core D) (o : Opening) (h : List E
   same_moment : w.moment ≡ u.moment
   same_moment = ap (λ (x : Core D). x.moment) step.others
 
+  same_committed : w.committed ≡ u.committed
+  same_committed = ap (λ (x : Core D). x.committed) step.others
+
   call_is : call_of o e ≡ Some call
   call_is = ap (λ b. cond b (call_at o.lines e.line) None) effect ∙ at
 
@@ -109,7 +118,7 @@ module _ {D : Type 0} (g : Ghosts D) (origin : Core D) (o : Opening) (h : List E
 
   -- with what the run and its syncs are then
   one_more : IsKnown o e → FollowsRun g origin o.clock (run_of o (h ++ e ∷ [])) (counted w) → IfSome (sync_of e.synced) (λ x. IsSyncInRange o (h ++ e ∷ []) (length h) e.line x)
-      → MomentsRise o (syncs_of (h ++ e ∷ [])) w.moment (g.clock w.device) → Serves g origin o (h ++ e ∷ []) (counted w) (saturated (done + 1))
+      → MomentsRise o (syncs_of (h ++ e ∷ [])) w.committed w.moment (g.clock w.device) → Serves g origin o (h ++ e ∷ []) (counted w) (saturated (done + 1))
   one_more known along range moments = record {
     few = s.few;
     lines = s.lines;
@@ -147,7 +156,7 @@ module _ {D : Type 0} (g : Ghosts D) (origin : Core D) (o : Opening) (h : List E
       has_sync = ap (λ (m : SyncMark). is_some (sync_of m)) unsynced ∙ sym (ap (λ (c : Option Call). is_sync c && is_none (fault_of e.fault)) call_is ∙ none_due);
     }
 
-    moments_on : MomentsRise o (syncs_of h) w.moment (g.clock w.device)
+    moments_on : MomentsRise o (syncs_of h) w.committed w.moment (g.clock w.device)
     moments_on =
         let m = s.moments in
         let same = same_moment in
@@ -155,6 +164,8 @@ module _ {D : Type 0} (g : Ghosts D) (origin : Core D) (o : Opening) (h : List E
         record {
           begins = let one = m.begins in omega (arith, one, same);
           ends = let one = m.ends in omega (arith, one, same, c);
+          since = subst (λ n. IsSinceOpening o n w.committed) (sym same_moment) (subst (λ n. IsSinceOpening o u.moment n) (sym same_committed) m.since);
+          not_below = let one = m.not_below in let count = same_committed in omega (arith, one, count);
           rising = m.rising;
           within = λ x has. let k = m.within x has in (k.0, k.1, let two = k.2 in omega (arith, two, same));
         }
@@ -163,12 +174,41 @@ module _ {D : Type 0} (g : Ghosts D) (origin : Core D) (o : Opening) (h : List E
     effect_serves = one_more known_effect
         (subst (λ (r : Run). FollowsRun g origin o.clock r (counted w)) (sym run_is) (effect_goes_along g u (counted w) (call, fault_of e.fault) origin o.clock (run_of o h) (step_takes_effect g u w (call, fault_of e.fault) volume s.core step makes) s.along))
         (subst (λ (m : SyncMark). IfSome (sync_of m) (λ x. IsSyncInRange o (h ++ e ∷ []) (length h) e.line x)) (sym unsynced) tt)
-        (subst (λ xs. MomentsRise o xs w.moment (g.clock w.device)) (ap (λ (r : Run). r.syncs) (sym run_is)) moments_on)
+        (subst (λ xs. MomentsRise o xs w.committed w.moment (g.clock w.device)) (ap (λ (r : Run). r.syncs) (sym run_is)) moments_on)
 
 -- ---- a sync
 
-module _ {D : Type 0} (g : Ghosts D) (origin : Core D) (o : Opening) (h : List Entry) (u b : Core D) (done number : ℕ) (e : Entry) (s : Serves g origin o h u done) (c : PreservesCore g u b) (commits : CommitsAll g u b number) (volume : IsVolumeShape (g.shape b.device))
-    (effect : is_effect e ≡ true) (at : call_at o.lines e.line ≡ Some Sync) (whole : fault_of e.fault ≡ None) (synced : e.synced ≡ At b.committed b.moment) where
+-- the calls so far are those of the history
+pub count_so_far : {D : Type 0} (g : Ghosts D) (origin : Core D) (o : Opening) (h : List Entry) (u : Core D) (done : ℕ) → Serves g origin o h u done → u.count ≡ saturated (o.count + effects h)
+count_so_far g origin o h u done s = s.along.count ∙ ap (λ n. saturated (o.count + n)) (calls_length o h s.known)
+
+-- The goal of a sync is at least the calls that had their effects as its line began.
+module _ {D : Type 0} (g : Ghosts D) (origin : Core D) (o : Opening) (h : List Entry) (u : Core D) (done worker : ℕ) (e : Entry) (s : RepresentsHistory g origin o h u done) where
+  pub goal_due : saturated (o.count + effects (take (begun_at (h ++ e ∷ []) e.line (length h)) h)) ≤ goal_or (goal_of u.flight worker e.line) u.count
+  goal_due = by (cases_eq (of_worker u.flight worker).line e.line)
+    where
+      begun_low : saturated (o.count + effects (take (begun_at (h ++ e ∷ []) e.line (length h)) h)) ≤ u.count
+      begun_low = let all = count_so_far g origin o h u done s.serves in let most = effects_within h (begun_at (h ++ e ∷ []) e.line (length h)) in omega (arith, all, most)
+
+      none_there : goal_of u.flight worker e.line ≡ None → saturated (o.count + effects (take (begun_at (h ++ e ∷ []) e.line (length h)) h)) ≤ goal_or (goal_of u.flight worker e.line) u.count
+      none_there none = subst (λ (x : Option ℕ). saturated (o.count + effects (take (begun_at (h ++ e ∷ []) e.line (length h)) h)) ≤ goal_or x u.count) (sym none) begun_low
+
+      at : (x : Option ℕ) → IfSome x (IsGoal o h u.count e.line) → saturated (o.count + effects (take (begun_at (h ++ e ∷ []) e.line (length h)) h)) ≤ goal_or x u.count
+      at None is = begun_low
+      at (Some goal) is = let low = is.not_below_begin in let same = begun_is h e e.line is.begun is.staged in omega (arith, low, same)
+
+      by : ((of_worker u.flight worker).line ≡ e.line) ⊎ ((of_worker u.flight worker).line ≢ e.line) → saturated (o.count + effects (take (begun_at (h ++ e ∷ []) e.line (length h)) h)) ≤ goal_or (goal_of u.flight worker e.line) u.count
+      by (inl here) =
+          subst (λ (x : Option ℕ). saturated (o.count + effects (take (begun_at (h ++ e ∷ []) e.line (length h)) h)) ≤ goal_or x u.count)
+          (sym (ap (λ b. cond b (of_worker u.flight worker).goal None) (eq-eqb (of_worker u.flight worker).line e.line here)))
+          (at (of_worker u.flight worker).goal (subst (λ l. IfSome (of_worker u.flight worker).goal (IsGoal o h u.count l)) here (s.goals worker)))
+      by (inr far) = none_there (ap (λ b. cond b (of_worker u.flight worker).goal None) (ne_eqb (of_worker u.flight worker).line e.line far))
+
+module _ {D : Type 0} (g : Ghosts D) (origin : Core D) (o : Opening) (h : List Entry) (u b : Core D) (done worker : ℕ) (e : Entry) (stands : RepresentsHistory g origin o h u done) (c : PreservesCore g u b) (reached : goal_or (goal_of u.flight worker e.line) u.count ≤ b.committed)
+    (volume : IsVolumeShape (g.shape b.device)) (effect : is_effect e ≡ true) (at : call_at o.lines e.line ≡ Some Sync) (whole : fault_of e.fault ≡ None) (synced : e.synced ≡ At b.committed b.moment) where
+  s : Serves g origin o h u done
+  s = stands.serves
+
   abbrev pub point : SyncPoint
   point = record { upto = b.committed; moment = b.moment }
 
@@ -193,23 +233,24 @@ module _ {D : Type 0} (g : Ghosts D) (origin : Core D) (o : Opening) (h : List E
     has_sync = ap is_some has_point ∙ sym ((λ i. is_sync ((ap (λ b. cond b (call_at o.lines e.line) None) effect ∙ at) i) && is_none (whole i)));
   }
 
-  upto_is : b.committed ≡ saturated (o.count + effects h)
-  upto_is = commits.committed ∙ (s.along.count ∙ ap (λ n. saturated (o.count + n)) (calls_length o h s.known))
+  upto_most : b.committed ≤ saturated (o.count + effects h)
+  upto_most =
+      let all = count_so_far g origin o h u done s in
+      let same = c.goes.count in
+      let one = c.core.counts.later in
+      let two = c.core.counts.latest in
+      omega (arith, all, same, one, two)
 
-  since_opening : Earlier o.clock b.moment
-  since_opening low =
-      let first = s.since.clock in
-      let from = commits.from in
-      ⊎_elim (λ below. let later = commits.decided below in omega (arith, first, later)) (λ end. omega (arith, low, end, from)) (cases_lt (g.clock u.device) top)
-
-  moments_then : MomentsRise o (syncs_of h ++ point ∷ []) b.moment (g.clock b.device)
+  moments_then : MomentsRise o (syncs_of h ++ point ∷ []) b.committed b.moment (g.clock b.device)
   moments_then =
       let m = serves_then.moments in
       record {
         begins = m.begins;
         ends = m.ends;
+        since = m.since;
+        not_below = m.not_below;
         rising = pairs_more (λ (x y : SyncPoint). x.moment ≤ y.moment) (syncs_of h) point m.rising (λ x has. (m.within x has).2);
-        within = λ x has. ⊎_elim (m.within x) (λ is. subst (λ (y : SyncPoint). Earlier o.clock y.moment × (o.clock ≤ y.moment) × (y.moment ≤ b.moment)) is (since_opening, m.begins, omega arith)) (has_or_last (syncs_of h) point x has);
+        within = λ x has. ⊎_elim (m.within x) (λ is. subst (λ (y : SyncPoint). IsSinceOpening o y.moment y.upto × (o.clock ≤ y.moment) × (y.moment ≤ b.moment)) is (m.since, m.begins, omega arith)) (has_or_last (syncs_of h) point x has);
       }
 
   pub sync_serves : Serves g origin o (h ++ e ∷ []) (counted b) (saturated (done + 1))
@@ -217,6 +258,6 @@ module _ {D : Type 0} (g : Ghosts D) (origin : Core D) (o : Opening) (h : List E
       known_sync
       (subst (λ (r : Run). FollowsRun g origin o.clock r (counted b)) (sym sync_run)
       (effect_goes_along g b (counted b) (Sync, fault_of e.fault) origin o.clock (with_sync (run_of o h) point) (step_takes_effect g b b (Sync, fault_of e.fault) volume c.core (steps_none g b) same_tree)
-      (sync_goes_along g c.most number u b origin o.clock (run_of o h) c.goes commits s.along)))
-      (subst (λ (x : Option SyncPoint). IfSome x (λ y. IsSyncInRange o (h ++ e ∷ []) (length h) e.line y)) (sym has_point) (last_in_range o h e point upto_is (let few = s.few in omega (arith, few)) effect))
-      (subst (λ xs. MomentsRise o xs b.moment (g.clock b.device)) (ap (λ (r : Run). r.syncs) (sym sync_run)) moments_then)
+      (sync_goes_along g b origin o.clock (run_of o h) serves_then.along)))
+      (subst (λ (x : Option SyncPoint). IfSome x (λ y. IsSyncInRange o (h ++ e ∷ []) (length h) e.line y)) (sym has_point) (last_in_range o h e point (let due = goal_due g origin o h u done worker e stands in omega (arith, due, reached)) serves_then.moments.not_below upto_most effect))
+      (subst (λ xs. MomentsRise o xs b.committed b.moment (g.clock b.device)) (ap (λ (r : Run). r.syncs) (sym sync_run)) moments_then)

@@ -26,7 +26,7 @@ use Rattle.nl_turns.specs.declared.entry.Entry.{Entry}
 use Rattle.nl_calls_steps.specs.Calls.{counts_of}
 use Rattle.nl_calls_write.specs.Calls.{IsStagedPage}
 use Rattle.nl_volume_stage.specs.Standing.{FlightIsOfLines, IsInFlight, FaultReplyHasCause, NumbersDiffer, RepresentsHistory}
-use Rattle.nl_volume_stage.specs.Turns.{AreCounts, FailsSince}
+use Rattle.nl_volume_stage.specs.Turns.{AreCounts, FailsSince, GoalsStay}
 use Rattle.nl_volume_stage.proofs.Lines.{line_cases, one_call_of, other_with, own_with}
 use Rattle.nl_calls_steps.proofs.LeavesTree.{step_goes}
 use Rattle.nl_volume_stage.proofs.Standing.{calls_stand_with}
@@ -134,6 +134,19 @@ module _ {D : Type 0} (g : Ghosts D) (origin : Core D) (o : Opening) (h : List E
           let two : (of_worker v.flight w').fault ≡ (of_worker now.flight w').fault = ap (λ (x : InFlight). x.fault) (others w' off') in
           one ∙ b.numbers.apart w w' far (λ none. some (one ∙ none)) (sym one ∙ (same ∙ two))
 
+  goals_with : GoalsStay now.flight v.flight
+  goals_with w = by (cases_eq w worker)
+    where
+      here : ((of_worker v.flight worker).goal ≡ None) ⊎ (((of_worker v.flight worker).goal ≡ (of_worker now.flight worker).goal) × ((of_worker v.flight worker).line ≡ (of_worker now.flight worker).line))
+      here = ⊎_elim
+          (λ is. inl (ap (λ (x : InFlight). x.goal) own ∙ ap (λ (x : InFlight). x.goal) is.1))
+          (λ is. inr (ap (λ (x : InFlight). x.goal) own ∙ ap (λ (x : InFlight). x.goal) is.2, ap (λ (x : InFlight). x.line) own ∙ ap (λ (x : InFlight). x.line) is.2))
+          (line_cases now.flight worker line has)
+
+      by : (w ≡ worker) ⊎ (w ≢ worker) → ((of_worker v.flight w).goal ≡ None) ⊎ (((of_worker v.flight w).goal ≡ (of_worker now.flight w).goal) × ((of_worker v.flight w).line ≡ (of_worker now.flight w).line))
+      by (inl at) = subst (λ k. ((of_worker v.flight k).goal ≡ None) ⊎ (((of_worker v.flight k).goal ≡ (of_worker now.flight k).goal) × ((of_worker v.flight k).line ≡ (of_worker now.flight k).line))) (sym at) here
+      by (inr far) = inr (ap (λ (x : InFlight). x.goal) (others w far), ap (λ (x : InFlight). x.line) (others w far))
+
   pub failure_noted : IsFlight v.flight → RepresentsHistory g origin o h v done
   failure_noted lines = calls_stand_with g origin o h now v done b
       (record {
@@ -144,5 +157,6 @@ module _ {D : Type 0} (g : Ghosts D) (origin : Core D) (o : Opening) (h : List E
           goes = step_goes g now v b.serves.core volume (flight_step g now v.flight) refl (λ page_of_stamp tree runs. runs);
         };
         flight = flight_with;
+        goals = goals_with;
       })
       numbers_with

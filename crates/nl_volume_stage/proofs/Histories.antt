@@ -1,12 +1,14 @@
 -- What one entry more adds to a history.
 use Rattle.std.proofs.Common.{◌≡◌, ◌≢◌, ◌⊎◌, inl, inr, ⊎_elim, ℕ, zero, suc, ◌+◌, ◌<◌, ◌≤◌, ◌==◌, Bool, true, false, not, cond, List, [], ◌∷◌, ◌++◌, length, filter, take, Option, Some, None, refl, sym, ap, subst, ◌∙◌, arith, length-append, eq-eqb, ne_eqb}
-use Rattle.std.specs.Prelude.{IfSome, AllPairs, slice_get, sum_by, filter_map, position, unwrap_or, option_map, is_some}
-use Rattle.std.proofs.lemmas.Bool.{cases_eq, cases_lt}
+use Rattle.std.specs.Prelude.{nat_lt, IfSome, AllPairs, slice_get, sum_by, filter_map, position, unwrap_or, option_map, is_some}
+use Rattle.std.proofs.lemmas.Bool.{cases_eq, cases_lt, cond-false, cond-true, le-ltb, lt-ltb}
 use Rattle.std.proofs.Math.ListN.{get_or}
 use Rattle.std.proofs.Math.Seq.{get_or-append_seam}
 use Rattle.std.proofs.lemmas.List.{get_or_append_left, take-append-le, take_all, length-take}
 use Rattle.std.proofs.lemmas.List.Elements.{filter-append, filter_map-append}
-use Rattle.std.proofs.lemmas.List.Sums.{sum_by-append, sum_by-take-le}
+use Rattle.std.specs.List.{position_or_len}
+use Rattle.std.proofs.lemmas.List.Folds.{position_or_len_push}
+use Rattle.std.proofs.lemmas.List.Sums.{prefix_len-le-length, sum_by-append, sum_by-take-le}
 use Rattle.std.proofs.lemmas.List.Quantifiers.{position-Some}
 use Rattle.std.proofs.lemmas.Option.{slice_get_past}
 use Rattle.nl_field.specs.CrashStates.{saturated}
@@ -19,6 +21,7 @@ use Rattle.nl_tree.specs.declared.turn.DutyAnswer.TheVariants.{Did}
 use Rattle.nl_turns.specs.Served.{duty_entry}
 use Rattle.nl_turns.specs.declared.entry.Entry.{Entry}
 use Rattle.nl_turns.specs.declared.entry.SyncMark.TheVariants.{NoSync, At}
+use Rattle.nl_volume_stage.specs.Standing.{IsGoal}
 
 -- ---- members
 
@@ -188,18 +191,96 @@ module _ (o : Opening) (h : List Entry) (e : Entry) where
           subst (λ n. IfSome (slice_get (h ++ e ∷ []) n) (λ e'. IfSome (sync_of e'.synced) (λ s. IsSyncInRange o (h ++ e ∷ []) n e'.line s))) (sym at)
           (subst (λ (x : Option Entry). IfSome x (λ e'. IfSome (sync_of e'.synced) (λ s. IsSyncInRange o (h ++ e ∷ []) (length h) e'.line s))) (sym (at_last h e)) last)
 
-  -- A sync that made safe all calls before its own is in range.
-  pub last_in_range : (s : SyncPoint) → s.upto ≡ saturated (o.count + effects h) → o.count < 18446744073709551616 → is_effect e ≡ true → IsSyncInRange o (h ++ e ∷ []) (length h) e.line s
+  -- A sync that made safe its goal is in range: all calls before its line began, and not more than were answered.
+  pub last_in_range : (s : SyncPoint) → saturated (o.count + effects (take (begun_at (h ++ e ∷ []) e.line (length h)) h)) ≤ s.upto → o.count ≤ s.upto → s.upto ≤ saturated (o.count + effects h) → is_effect e ≡ true → IsSyncInRange o (h ++ e ∷ []) (length h) e.line s
   unfolding effects_before begun_at place_of
-  last_in_range s is few effect =
+  last_in_range s begun from to effect =
       let k = begun_at (h ++ e ∷ []) e.line (length h) in
       let low = begun_within (h ++ e ∷ []) e.line (length h) in
       let same : effects (take k (h ++ e ∷ [])) ≡ effects (take k h) = ap effects (take-append-le k h (e ∷ []) low) in
-      let most = effects_within h k in
       let whole : take (length h + 1) (h ++ e ∷ []) ≡ h ++ e ∷ [] = take_all (length h + 1) (h ++ e ∷ []) (let n = length-append h (e ∷ []) in omega (arith, n)) in
       let place : effects (take (length h + 1) (h ++ e ∷ [])) ≡ effects h + 1 = ap effects whole ∙ (effects_more h e ∙ ap (λ b. effects h + cond b 1 0) effect) in
       record {
-        not_below_begin = omega (arith, same, most, is);
-        not_below_opening = omega (arith, few, is);
-        below_place = omega (arith, place, is);
+        not_below_begin = omega (arith, same, begun);
+        not_below_opening = from;
+        below_place = omega (arith, place, to);
       }
+
+-- ---- goals in flight
+
+-- where a line was staged in the history, its first staging is the same with an entry more
+pub begun_is : (h : List Entry) (e : Entry) (line begun : ℕ) → position (λ (x : Entry). x.staged == line) h ≡ Some begun → effects (take (begun_at (h ++ e ∷ []) line (length h)) h) ≡ effects (take begun h)
+unfolding begun_at
+begun_is h e line begun at =
+    let same : take (length h) (h ++ e ∷ []) ≡ h = take-append-le (length h) h (e ∷ []) (omega arith) ∙ take_all (length h) h (omega arith) in
+    ap (λ (n : ℕ). effects (take n h)) (ap (λ (xs : List Entry). unwrap_or (position (λ (x : Entry). x.staged == line) xs) (length h)) same ∙ ap (λ (x : Option ℕ). unwrap_or x (length h)) at)
+
+module _ (p : Entry → Bool) (h : List Entry) (e : Entry) where
+  abbrev first : ℕ
+  first = position_or_len p h
+
+  pushed : position_or_len p (h ++ e ∷ []) ≡ cond (first == length h) (length h + cond (p e) 0 1) first
+  pushed = position_or_len_push p h e
+
+  more : length (h ++ e ∷ []) ≡ length h + 1
+  more = length-append h (e ∷ [])
+
+  at_place : (k : ℕ) → position_or_len p (h ++ e ∷ []) ≡ k → k < length h + 1 → position p (h ++ e ∷ []) ≡ Some k
+  at_place k is low =
+      let n = more in
+      ap (λ j. cond (nat_lt j (length (h ++ e ∷ []))) (Some j) None) is ∙ cond-true (nat_lt k (length (h ++ e ∷ []))) (Some k) None (lt-ltb k (length (h ++ e ∷ [])) (omega (arith, low, n)))
+
+  -- what was at a place is there still
+  pub position_before : (k : ℕ) → position p h ≡ Some k → position p (h ++ e ∷ []) ≡ Some k
+  position_before k is =
+      let low = (position-Some p h k e is).0 in
+      let same : first ≡ k = ⊎_elim
+      (λ below. let at : Some first ≡ Some k = sym (cond-true (nat_lt first (length h)) (Some first) None (lt-ltb first (length h) below)) ∙ is in cc at)
+      (λ past. absurd (let no : None ≡ Some k = sym (cond-false (nat_lt first (length h)) (Some first) None (le-ltb first (length h) past)) ∙ is in cc no))
+      (cases_lt first (length h)) in
+      at_place k (pushed ∙ cond-false (first == length h) (length h + cond (p e) 0 1) first (ne_eqb first (length h) (λ end. let no : ⊥ = omega (arith, same, end, low) in no)) ∙ same) (omega (arith, low))
+
+  -- the new one is the first
+  pub position_last : position p h ≡ None → p e ≡ true → position p (h ++ e ∷ []) ≡ Some (length h)
+  position_last none is =
+      let most = prefix_len-le-length (λ x. not (p x)) h in
+      let end : first ≡ length h = ⊎_elim
+      (λ below. absurd (let no : Some first ≡ None = sym (cond-true (nat_lt first (length h)) (Some first) None (lt-ltb first (length h) below)) ∙ none in cc no))
+      (λ past. omega (arith, past, most)) (cases_lt first (length h)) in
+      at_place (length h) (pushed ∙ cond-true (first == length h) (length h + cond (p e) 0 1) first (eq-eqb first (length h) end) ∙ ap (λ b. length h + cond b 0 1) is ∙ (omega arith)) (omega arith)
+
+pub goal_more : (o : Opening) (h : List Entry) (e : Entry) (count line goal : ℕ) → IsGoal o h count line goal → IsGoal o (h ++ e ∷ []) count line goal
+goal_more o h e count line goal is =
+    let low = (position-Some (λ (x : Entry). x.staged == line) h is.begun e is.staged).0 in
+    let same : take is.begun (h ++ e ∷ []) ≡ take is.begun h = take-append-le is.begun h (e ∷ []) (omega (arith, low)) in
+    record {
+      begun = is.begun;
+      staged = position_before (λ (x : Entry). x.staged == line) h e is.begun is.staged;
+      not_below_begin = subst (λ (xs : List Entry). saturated (o.count + effects xs) ≤ goal) (sym same) is.not_below_begin;
+      not_beyond = is.not_beyond;
+    }
+
+-- The goal of a line whose first staging this is, or an earlier one: all calls so far.
+pub goal_new : (o : Opening) (h : List Entry) (e : Entry) (count line : ℕ) → (e.staged == line) ≡ true → count ≡ saturated (o.count + effects h) → IsGoal o (h ++ e ∷ []) count line count
+goal_new o h e count line is all = by (position (λ (x : Entry). x.staged == line) h) refl
+  where
+    by : (x : Option ℕ) → position (λ (x : Entry). x.staged == line) h ≡ x → IsGoal o (h ++ e ∷ []) count line count
+    by None none = record {
+      begun = length h;
+      staged = position_last (λ (x : Entry). x.staged == line) h e none is;
+      not_below_begin =
+          let same : effects (take (length h) (h ++ e ∷ [])) ≡ effects h = ap effects (take-append-le (length h) h (e ∷ []) (omega arith) ∙ take_all (length h) h (omega arith)) in
+          omega (arith, all, same);
+      not_beyond = omega arith;
+    }
+    by (Some k) at =
+        let low = (position-Some (λ (x : Entry). x.staged == line) h k e at).0 in
+        record {
+          begun = k;
+          staged = position_before (λ (x : Entry). x.staged == line) h e k at;
+          not_below_begin =
+              let same : effects (take k (h ++ e ∷ [])) ≡ effects (take k h) = ap effects (take-append-le k h (e ∷ []) (omega (arith, low))) in
+              let most = effects_within h k in
+              omega (arith, all, same, most);
+          not_beyond = omega arith;
+        }

@@ -5,6 +5,7 @@ pub mod Due
 pub mod Effects
 pub mod Failing
 pub mod Few
+pub mod Fixed
 pub mod Flights
 pub mod Given
 pub mod Histories
@@ -13,6 +14,7 @@ pub mod Lines
 pub mod Nexts
 pub mod Own
 pub mod Pages
+pub mod Rest
 pub mod Serving
 pub mod Staged
 pub mod Stages

@@ -1,9 +1,8 @@
 -- What is next of a line in the tree for which a core stands, and what a staging tells of it.
-use Rattle.std.proofs.Common.{◌≡◌, ◌≢◌, ◌⊎◌, inl, inr, ⊎_elim, ℕ, ◌+◌, ◌-◌, ◌<◌, ◌==◌, false, cond, List, [], ◌∷◌, length, map, Option, Some, None, refl, sym, ap, subst, ◌∙◌, arith, eq-eqb, ne_eqb}
+use Rattle.std.proofs.Common.{◌≡◌, ◌≢◌, ◌⊎◌, inl, inr, ⊎_elim, ℕ, ◌+◌, ◌<◌, ◌==◌, false, cond, List, [], ◌∷◌, ◌++◌, length, map, Option, Some, None, refl, sym, ap, subst, ◌∙◌, arith, eq-eqb, ne_eqb}
 use Rattle.std.specs.List.{range_with_len}
 use Rattle.std.specs.Prelude.{IsSome, option_and_then, option_map, slice_get}
-use Rattle.std.proofs.lemmas.Bool.{cases_eq}
-use Rattle.std.proofs.lemmas.List.{length-map}
+use Rattle.std.proofs.lemmas.List.{length-append, length-map}
 use Rattle.std.proofs.lemmas.Option.{slice_get-map}
 use Rattle.nl_field.specs.CrashStates.{Rose}
 use Rattle.nl_field.specs.Graph.{GraphNode}
@@ -35,6 +34,7 @@ use Rattle.nl_spec_commits.specs.Trees.{RepresentsTree}
 use Rattle.nl_core.specs.Core.{IsCore, running_of}
 use Rattle.nl_core.specs.Dropping.{DropsLine}
 use Rattle.nl_core.specs.Programming.{HasLineOrNone}
+use Rattle.nl_core.specs.Units.{goal_of}
 use Rattle.nl_core.specs.declared.state.Core.{Core}
 use Rattle.nl_calls_steps.specs.Finding.{nodes_of}
 use Rattle.nl_calls_steps.specs.Steps.{ReadsOn}
@@ -44,14 +44,14 @@ use Rattle.nl_turns.specs.History.{Opening}
 use Rattle.nl_turns.specs.Served.{IsLineOf}
 use Rattle.nl_turns.specs.declared.entry.Entry.{Entry}
 use Rattle.nl_calls_bytes.specs.Ranges.{from_of, len_of, path_of}
-use Rattle.nl_volume_stage.specs.Serving.{to_stage_of}
+use Rattle.nl_volume_stage.specs.StagedPages.{flight_for, flight_of}
 use Rattle.nl_volume_stage.specs.Staging.{FileIsAt, IsNextTag, IsNextAt, IsNextIn, PassesOn, StagesFirst, StagesOn, TellsLeft, staged_indexes}
 use Rattle.nl_volume_stage.specs.Standing.{FlightIsOfLines, IsInFlight, RepresentsHistory, first_whole}
 use Rattle.nl_volume_stage.specs.declared.next.Next.{Next}
 use Rattle.nl_volume_stage.specs.declared.next.Next.TheVariants as next
-use Rattle.nl_volume_stage.proofs.Few.{few_staged}
 use Rattle.nl_volume_stage.proofs.Left.{NothingIn, are_from, nothing_left, one_left}
 use Rattle.nl_volume_stage.proofs.Lines.{one_call_of, own_with}
+use Rattle.nl_volume_stage.proofs.Pages.{LeavesPage, own_pages}
 
 -- ---- where a path leads
 
@@ -89,10 +89,17 @@ module _ (law : LooksInTree) {D : Type 0} (g : Ghosts D) (u : Core D) (path : Li
 
 -- ---- what is in flight for a line
 
-other_line : (x : InFlight) (line : ℕ) → x.line ≢ line → (cond (x.line == line) (map (λ (page : FlightPage). page.index) x.pages) [] ≡ []) × (cond (x.line == line) (16 - length x.pages) 16 ≡ 16)
-other_line x line far = (ap (λ b. cond b (map (λ (page : FlightPage). page.index) x.pages) []) (ne_eqb x.line line far), ap (λ b. cond b (16 - length x.pages) 16) (ne_eqb x.line line far))
+other_line : (x : InFlight) (line : ℕ) → x.line ≢ line → (cond (x.line == line) (map (λ (page : FlightPage). page.index) x.pages) [] ≡ []) × (cond (x.line == line) x.goal None ≡ None)
+other_line x line far = (ap (λ b. cond b (map (λ (page : FlightPage). page.index) x.pages) []) (ne_eqb x.line line far), ap (λ b. cond b x.goal None) (ne_eqb x.line line far))
 
--- another line of the worker is dropped
+-- another line of the worker is dropped, and with it its goal
+pub goal_dropped : {D : Type 0} (g : Ghosts D) (worker line : ℕ) (u v : Core D) → IsCore g u → worker < 8 → 0 < line → (of_worker u.flight worker).line ≢ line → DropsLine g worker u v → goal_of v.flight worker line ≡ goal_of u.flight worker line
+goal_dropped g worker line u v core known some far d =
+    let eight = core.flight.eight in
+    let gone : of_worker v.flight worker ≡ begun 0 = ap (λ (f : List InFlight). of_worker f worker) d.flight ∙ own_with u.flight worker (begun 0) (omega (arith, known, eight)) in
+    (other_line (of_worker v.flight worker) line (λ is. let at = ap (λ (x : InFlight). x.line) gone in let off : ⊥ = omega (arith, some, is, at) in off)).1
+    ∙ sym (other_line (of_worker u.flight worker) line far).1
+
 pub staged_dropped : {D : Type 0} (g : Ghosts D) (worker line : ℕ) (u v : Core D) → IsCore g u → worker < 8 → 0 < line → (of_worker u.flight worker).line ≢ line → DropsLine g worker u v
     → staged_indexes v.flight worker line ≡ staged_indexes u.flight worker line
 staged_dropped g worker line u v core known some far d =
@@ -100,10 +107,6 @@ staged_dropped g worker line u v core known some far d =
     let gone : of_worker v.flight worker ≡ begun 0 = ap (λ (f : List InFlight). of_worker f worker) d.flight ∙ own_with u.flight worker (begun 0) (omega (arith, known, eight)) in
     (other_line (of_worker v.flight worker) line (λ is. let at = ap (λ (x : InFlight). x.line) gone in let off : ⊥ = omega (arith, some, is, at) in off)).0
     ∙ sym (other_line (of_worker u.flight worker) line far).0
-
-has_line : (flight : List InFlight) (worker line : ℕ) → to_stage_of flight worker line < 16 → HasLineOrNone flight worker line
-has_line flight worker line low =
-    ⊎_elim (λ is. inr is) (λ far. let all = (other_line (of_worker flight worker) line far).1 in absurd (let off : ⊥ = omega (arith, low, all) in off)) (cases_eq (of_worker flight worker).line line)
 
 module _ {D : Type 0} (g : Ghosts D) (o : Opening) (u : Core D) (worker line : ℕ) (call : Call) (core : IsCore g u) (flight : FlightIsOfLines g o u.device u.flight) (has : HasLineOrNone u.flight worker line) (of : IsLineOf o worker line call) where
   abbrev now : InFlight
@@ -138,12 +141,6 @@ module _ {D : Type 0} (g : Ghosts D) (o : Opening) (u : Core D) (worker line : �
           (λ k i at. each is k i (slice_get now.pages k) refl (sym (slice_get-map (λ (page : FlightPage). page.index) now.pages k) ∙ at) (flight worker))
           ∙ ap (range_with_len (first_whole call)) (length-map now.pages (λ (page : FlightPage). page.index)))
 
-  room_of : to_stage_of u.flight worker line + length now.pages ≡ 16
-  room_of =
-      let few = few_staged g o u core flight worker in
-      ⊎_elim (λ is. let all = (other_line now line (not_line is)).1 in let none = ap (λ (xs : List FlightPage). length xs) (no_pages is) in omega (arith, all, none))
-      (λ is. let room = ap (λ b. cond b (16 - length now.pages) 16) (eq-eqb now.line line is) in omega (arith, room, few)) has
-
 -- ---- what a staging tells
 
 module _ {D : Type 0} (g : Ghosts D) (origin : Core D) (o : Opening) (h : List Entry) (u : Core D) (done worker line : ℕ) (call : Call) (s : RepresentsHistory g origin o h u done) (of : IsLineOf o worker line call) (has : HasLineOrNone u.flight worker line) where
@@ -161,15 +158,17 @@ module _ {D : Type 0} (g : Ghosts D) (origin : Core D) (o : Opening) (h : List E
       why (inr end) = inr end
 
   -- one page more is in flight
-  first_after : (w : Core D) → StagesOn g worker line call u w stage.Staged → staged_indexes w.flight worker line ≡ range_with_len (first_whole call) (place + 1)
-  first_after w x =
+  first_after : (w : Core D) (P : Tag → Type 0) → StagesOn g worker line call u w stage.Staged → LeavesPage g worker line P u w stage.Staged → staged_indexes w.flight worker line ≡ range_with_len (first_whole call) (place + 1)
+  first_after w P x put =
       let t = x.on origin o h done s of in
-      let less = x.room refl in
-      let before = room_of g o u worker line call s.serves.core s.flight has of in
-      let now = has_line w.flight worker line (omega (arith, less, before)) in
-      let after = room_of g o w worker line call t.serves.core t.flight now of in
-      let more : length (of_worker w.flight worker).pages ≡ place + 1 = omega (arith, less, before, after) in
-      staged_first g o w worker line call t.serves.core t.flight now of ∙ ap (range_with_len (first_whole call)) more
+      let added : flight_of w.flight worker ≡ flight_for u.flight worker line ++ (put.pages.0, put.pages.2.stamp) ∷ [] = put.pages.2.pages in
+      let own : flight_of u.flight worker ≡ flight_for u.flight worker line = own_pages u.flight worker line of.numbered has (λ none. (s.serves.core.flight.idle worker none).0) in
+      let all = ap length added ∙ length-append (flight_for u.flight worker line) ((put.pages.0, put.pages.2.stamp) ∷ []) in
+      let was = ap length own in
+      let long : length (flight_of w.flight worker) ≡ length (of_worker w.flight worker).pages = length-map {B = Tag × ℕ} (of_worker w.flight worker).pages (λ (page : FlightPage). (page.tag, page.at.stamp)) in
+      let short : length (flight_of u.flight worker) ≡ length (of_worker u.flight worker).pages = length-map {B = Tag × ℕ} (of_worker u.flight worker).pages (λ (page : FlightPage). (page.tag, page.at.stamp)) in
+      let more : length (of_worker w.flight worker).pages ≡ place + 1 = omega (arith, all, was, long, short) in
+      staged_first g o w worker line call t.serves.core t.flight put.line_is of ∙ ap (range_with_len (first_whole call)) more
 
   module _ (tag : Tag) (at : IsNextTag call place tag) (is : IsNextIn g u (path_of call) (from_of call) (len_of call) place (next.Page tag)) where
     one_first : (page_of_stamp : ℕ → Option PageOfStamp) (tree : Tree) → RepresentsTree (g.shape u.device) (running_of g u) page_of_stamp tree
@@ -177,13 +176,13 @@ module _ {D : Type 0} (g : Ghosts D) (origin : Core D) (o : Opening) (h : List E
     one_first page_of_stamp tree runs =
         ap (left_to_stage tree call) first_u ∙ one_left tree place call (is.0 page_of_stamp tree runs) is.1 (subst (λ i. IsSome (page_given call i)) at.index at.whole)
 
-    pub tells_page : (w : Core D) (answer : Stage) → StagesOn g worker line call u w answer → answer ≢ stage.Whole → TellsLeft g worker line call u w answer
-    tells_page w stage.Staged x far tells page_of_stamp tree runs =
-        (first_whole call + place, one_first page_of_stamp tree runs.runs ∙ ap (λ xs. (first_whole call + place) ∷ left_to_stage tree call xs) (sym (first_after w x)))
-    tells_page w stage.Whole x far tells page_of_stamp tree runs = absurd (far refl)
-    tells_page w stage.Fault x far tells page_of_stamp tree runs = λ none. absurd (cc (sym (one_first page_of_stamp tree runs.runs) ∙ none))
-    tells_page w stage.Stopped x far tells page_of_stamp tree runs = tt
-    tells_page w (stage.Lost k f) x far tells page_of_stamp tree runs = tt
+    pub tells_page : (w : Core D) (answer : Stage) (P : Tag → Type 0) → StagesOn g worker line call u w answer → LeavesPage g worker line P u w answer → answer ≢ stage.Whole → TellsLeft g worker line call u w answer
+    tells_page w stage.Staged P x put far tells page_of_stamp tree runs =
+        (first_whole call + place, one_first page_of_stamp tree runs.runs ∙ ap (λ xs. (first_whole call + place) ∷ left_to_stage tree call xs) (sym (first_after w P x put)))
+    tells_page w stage.Whole P x put far tells page_of_stamp tree runs = absurd (far refl)
+    tells_page w stage.Fault P x put far tells page_of_stamp tree runs = λ none. absurd (cc (sym (one_first page_of_stamp tree runs.runs) ∙ none))
+    tells_page w stage.Stopped P x put far tells page_of_stamp tree runs = tt
+    tells_page w (stage.Lost k f) P x put far tells page_of_stamp tree runs = tt
 
 -- what was done before programs no page of the line
 pub tells_through : {D : Type 0} (g : Ghosts D) (worker line : ℕ) (call : Call) (u v w : Core D) (answer : Stage) → PassesOn g worker line u v → staged_indexes v.flight worker line ≡ staged_indexes u.flight worker line

@@ -3,6 +3,8 @@ use Rattle.std.proofs.Common.{◌≡◌, ◌≢◌, ◌⊎◌, inl, inr, ⊎_eli
 use Rattle.std.proofs.lemmas.Bool.{cases_eq, cases_lt}
 use Rattle.nl_field.specs.declared.pointer.Tag.{Tag}
 use Rattle.nl_tree.specs.Causes.{fault_sum}
+use Rattle.nl_tree.specs.declared.call.Call.{Call}
+use Rattle.nl_tree.specs.declared.call.Call.TheVariants.{Mkdir, Rmdir, Create, Unlink, Rename, Write, Fill, Read, Truncate, Stat, List as ListCall, Sync, Clean}
 use Rattle.nl_tree.specs.declared.turn.Stage.{Stage}
 use Rattle.nl_tree.specs.declared.turn.Stage.TheVariants as stage
 use Rattle.nl_core_callbacks.specs.Handled.{nameless, nameless_line}
@@ -19,11 +21,70 @@ use Rattle.nl_core.specs.declared.state.Core.{Core}
 use Rattle.nl_core.proofs.Renamed.{maps_apart}
 use Rattle.nl_calls_steps.specs.Steps.{ReadsOn}
 use Rattle.nl_calls_steps.specs.Calls.{counts_of}
-use Rattle.nl_volume_stage.specs.StagedPages.{AddsLinePage, EndsTried, KeepsLinePages, LeavesInFlight, StagesPage, StaysWritable, flight_for, flight_of}
+use Rattle.nl_volume_stage.specs.StagedPages.{AddsLinePage, EndsTried, KeepsLinePages, LeavesInFlight, StagesPage, StagesPageOf, StaysWritable, flight_for, flight_of}
 use Rattle.nl_volume_stage.specs.Turns.{FaultsStay}
 use Rattle.nl_volume_stage.proofs.Alike.{line_alike}
 use Rattle.nl_volume_stage.proofs.Flights.{same_fault, same_line}
 use Rattle.nl_volume_stage.proofs.Lines.{line_cases, other_with, own_with}
+
+-- What the staging of a page leaves in flight for the worker: this line or none, and no page of another line.
+pub record LeavesPage {D : Type 0} (g : Ghosts D) (worker line : ℕ) (P : Tag → Type 0) (old new : Core D) (answer : Stage) : Type 0 where
+  pub line_is : HasLineOrNone new.flight worker line
+  pub pages : StagesPage g worker line P old new answer
+
+-- so it is of each call but a sync
+module _ {D : Type 0} (g : Ghosts D) (worker line : ℕ) (P : Tag → Type 0) (u v : Core D) (answer : Stage) where
+  pages_of_call : (call : Call) → call ≢ Sync → StagesPage g worker line P u v answer → StagesPageOf g call worker line P u v answer
+  pages_of_call (Mkdir path) off x = x
+  pages_of_call (Rmdir path) off x = x
+  pages_of_call (Create path) off x = x
+  pages_of_call (Unlink path) off x = x
+  pages_of_call (Rename from to) off x = x
+  pages_of_call (Write path from bytes) off x = x
+  pages_of_call (Fill path from len byte) off x = x
+  pages_of_call (Read path from len) off x = x
+  pages_of_call (Truncate path size) off x = x
+  pages_of_call (Stat path) off x = x
+  pages_of_call (ListCall path) off x = x
+  pages_of_call Sync off x = absurd (off refl)
+  pages_of_call Clean off x = x
+
+  pages_of_page : (call : Call) → call ≢ Sync → StagesPageOf g call worker line P u v answer → StagesPage g worker line P u v answer
+  pages_of_page (Mkdir path) off x = x
+  pages_of_page (Rmdir path) off x = x
+  pages_of_page (Create path) off x = x
+  pages_of_page (Unlink path) off x = x
+  pages_of_page (Rename from to) off x = x
+  pages_of_page (Write path from bytes) off x = x
+  pages_of_page (Fill path from len byte) off x = x
+  pages_of_page (Read path from len) off x = x
+  pages_of_page (Truncate path size) off x = x
+  pages_of_page (Stat path) off x = x
+  pages_of_page (ListCall path) off x = x
+  pages_of_page Sync off x = absurd (off refl)
+  pages_of_page Clean off x = x
+
+  -- a staging that was stopped keeps the pages of the line
+  pub pages_stopped : (call : Call) → KeepsLinePages worker line u.flight v.flight → StagesPageOf g call worker line P u v stage.Stopped
+  pages_stopped (Mkdir path) x = x
+  pages_stopped (Rmdir path) x = x
+  pages_stopped (Create path) x = x
+  pages_stopped (Unlink path) x = x
+  pages_stopped (Rename from to) x = x
+  pages_stopped (Write path from bytes) x = x
+  pages_stopped (Fill path from len byte) x = x
+  pages_stopped (Read path from len) x = x
+  pages_stopped (Truncate path size) x = x
+  pages_stopped (Stat path) x = x
+  pages_stopped (ListCall path) x = x
+  pages_stopped Sync x = x
+  pages_stopped Clean x = x
+
+  pub leaves_call : (call : Call) → call ≢ Sync → LeavesPage g worker line P u v answer → LeavesInFlight g worker line call P u v answer
+  leaves_call call off x = record { line_is = x.line_is; pages = pages_of_call call off x.pages }
+
+  pub leaves_page : (call : Call) → call ≢ Sync → LeavesInFlight g worker line call P u v answer → LeavesPage g worker line P u v answer
+  leaves_page call off x = record { line_is = x.line_is; pages = pages_of_page call off x.pages }
 
 -- ---- a page by its tag and its write sequence number
 
@@ -106,16 +167,16 @@ module _ {D : Type 0} (g : Ghosts D) (worker line : ℕ) (v : Core D) (core : Is
     failed_on stage.Stopped k = inl k
     failed_on (stage.Lost wanted found) k = inl k
 
-    pub leaves_noted : (answer : Stage) → StagesPage g worker line P u v answer → LeavesInFlight g worker line P u (notes_fault g worker line v) stage.Fault
+    pub leaves_noted : (answer : Stage) → StagesPage g worker line P u v answer → LeavesPage g worker line P u (notes_fault g worker line v) stage.Fault
     leaves_noted answer x = record { line_is = noted_line; pages = noted_on (failed_on answer x) }
 
 -- how a staging ends that has reached the device
 module _ {D : Type 0} (g : Ghosts D) (worker line : ℕ) (P : Tag → Type 0) (u v : Core D) (core : IsCore g v) (known : worker < 8) (some : 0 < line) where
-  pub leaves_tried : (answer : Stage) → LeavesInFlight g worker line P u v answer → (w : Core D) (result : Stage) → EndsTried g worker line answer v w result → LeavesInFlight g worker line P u w result
-  leaves_tried answer x w result (inl e) = subst (λ (r : Stage). LeavesInFlight g worker line P u w r) (sym e.0) (subst (λ (y : Core D). LeavesInFlight g worker line P u y answer) (sym e.1) x)
+  pub leaves_tried : (answer : Stage) → LeavesPage g worker line P u v answer → (w : Core D) (result : Stage) → EndsTried g worker line answer v w result → LeavesPage g worker line P u w result
+  leaves_tried answer x w result (inl e) = subst (λ (r : Stage). LeavesPage g worker line P u w r) (sym e.0) (subst (λ (y : Core D). LeavesPage g worker line P u y answer) (sym e.1) x)
   leaves_tried answer x w result (inr e) =
-      subst (λ (r : Stage). LeavesInFlight g worker line P u w r) (sym e.0)
-      (subst (λ (y : Core D). LeavesInFlight g worker line P u y stage.Fault) (sym e.1) (leaves_noted g worker line v core known some x.line_is P u answer x.pages))
+      subst (λ (r : Stage). LeavesPage g worker line P u w r) (sym e.0)
+      (subst (λ (y : Core D). LeavesPage g worker line P u y stage.Fault) (sym e.1) (leaves_noted g worker line v core known some x.line_is P u answer x.pages))
 
 -- ---- no page is put in flight
 
@@ -123,14 +184,14 @@ module _ {D : Type 0} (g : Ghosts D) (worker line : ℕ) (P : Tag → Type 0) (u
   kept : KeepsLinePages worker line u.flight v.flight
   kept = kept_pages u.flight v.flight worker line same some was (λ none. (before.flight.idle worker none).0)
 
-  pub leaves_whole : LeavesInFlight g worker line P u v stage.Whole
+  pub leaves_whole : LeavesPage g worker line P u v stage.Whole
   leaves_whole = record { line_is = has; pages = kept }
 
-  pub leaves_lost : (wanted found : ℕ) → LeavesInFlight g worker line P u v (stage.Lost wanted found)
+  pub leaves_lost : (wanted found : ℕ) → LeavesPage g worker line P u v (stage.Lost wanted found)
   leaves_lost wanted found = record { line_is = has; pages = kept }
 
-  pub leaves_failed : IsCore g v → worker < 8 → (w : Core D) → w ≡ notes_fault g worker line v → LeavesInFlight g worker line P u w stage.Fault
-  leaves_failed after known w noted = subst (λ (x : Core D). LeavesInFlight g worker line P u x stage.Fault) (sym noted) (leaves_noted g worker line v after known some has P u stage.Whole kept)
+  pub leaves_failed : IsCore g v → worker < 8 → (w : Core D) → w ≡ notes_fault g worker line v → LeavesPage g worker line P u w stage.Fault
+  leaves_failed after known w noted = subst (λ (x : Core D). LeavesPage g worker line P u x stage.Fault) (sym noted) (leaves_noted g worker line v after known some has P u stage.Whole kept)
 
 -- ---- a page is put in flight
 
@@ -168,7 +229,7 @@ module _ {D : Type 0} (g : Ghosts D) (worker line : ℕ) (u v : Core D) (core : 
       by (inl at) = subst (λ x. ((of_worker v.flight x).fault ≡ (of_worker u.flight x).fault) ⊎ ((of_worker v.flight x).fault ≡ 0)) (sym at) here
       by (inr far) = inl (same_fault (of_worker u.flight w) (of_worker v.flight w) (other_alike w far))
 
-  pub leaves_staged : LeavesInFlight g worker line (λ owner. owner ≡ tag) u v stage.Staged
+  pub leaves_staged : LeavesPage g worker line (λ owner. owner ≡ tag) u v stage.Staged
   leaves_staged = record { line_is = put_line; pages = (tag, refl, record { stamp = p.at.stamp; is_new = p.is_new; pages = put_pages }) }
 
 -- ---- one part after the other
@@ -185,7 +246,7 @@ module _ {D : Type 0} (g : Ghosts D) (worker line : ℕ) (P Q : Tag → Type 0) 
   pages_from stage.Stopped k = k ∙ same
   pages_from (stage.Lost wanted found) k = k ∙ same
 
-  pub leaves_from : (answer : Stage) → LeavesInFlight g worker line P v w answer → LeavesInFlight g worker line Q u w answer
+  pub leaves_from : (answer : Stage) → LeavesPage g worker line P v w answer → LeavesPage g worker line Q u w answer
   leaves_from answer x = record { line_is = x.line_is; pages = pages_from answer x.pages }
 
 -- ---- writes that failed
@@ -219,7 +280,7 @@ module _ {D : Type 0} (g : Ghosts D) (worker line : ℕ) (u v : Core D) (on : Re
   lines_read : KeepsLines u v
   lines_read = ap (λ (f : List InFlight). map nameless_line f) flight_read
 
-  pub read_leaves : (P Q : Tag → Type 0) → ((tag : Tag) → P tag → Q tag) → (w : Core D) (answer : Stage) → LeavesInFlight g worker line P v w answer → LeavesInFlight g worker line Q u w answer
+  pub read_leaves : (P Q : Tag → Type 0) → ((tag : Tag) → P tag → Q tag) → (w : Core D) (answer : Stage) → LeavesPage g worker line P v w answer → LeavesPage g worker line Q u w answer
   read_leaves P Q each w answer x =
       leaves_from g worker line P Q u v w each (ap (λ (f : List InFlight). flight_for f worker line) flight_read) (let same = on.runs.reads.medium.next_stamp in omega (arith, same)) answer x
 
@@ -233,11 +294,11 @@ module _ {D : Type 0} (g : Ghosts D) (worker line : ℕ) (u v : Core D) (on : Re
     has_read : HasLineOrNone v.flight worker line
     has_read = subst (λ (f : List InFlight). HasLineOrNone f worker line) (sym flight_read) has
 
-    pub read_whole : LeavesInFlight g worker line P u v stage.Whole
+    pub read_whole : LeavesPage g worker line P u v stage.Whole
     read_whole = leaves_whole g worker line P u v some lines_read core has has_read
 
-    pub read_lost : (wanted found : ℕ) → LeavesInFlight g worker line P u v (stage.Lost wanted found)
+    pub read_lost : (wanted found : ℕ) → LeavesPage g worker line P u v (stage.Lost wanted found)
     read_lost = leaves_lost g worker line P u v some lines_read core has has_read
 
-    pub read_failed : IsCore g v → worker < 8 → (w : Core D) → w ≡ notes_fault g worker line v → LeavesInFlight g worker line P u w stage.Fault
+    pub read_failed : IsCore g v → worker < 8 → (w : Core D) → w ≡ notes_fault g worker line v → LeavesPage g worker line P u w stage.Fault
     read_failed = leaves_failed g worker line P u v some lines_read core has has_read

@@ -1,15 +1,15 @@
 -- A volume goes on to stand: through turns without an effect, calls of its core, effects, and syncs.
 use Rattle.std.proofs.Common.{◌≡◌, ◌≢◌, ◌⊎◌, inl, inr, ⊎_elim, ℕ, ◌+◌, ◌-◌, ◌<◌, ◌≤◌, false, not, cond, ◌&&◌, List, [], ◌∷◌, ◌++◌, length, Option, Some, None, sym, ap, subst, ◌∙◌, arith, eq-eqb}
 use Rattle.std.specs.Prelude.{IfSome, is_none, is_some}
-use Rattle.std.proofs.lemmas.Bool.{cases_eq}
+use Rattle.std.proofs.lemmas.Bool.{cases_eq, cases_lt}
 use Rattle.std.proofs.lemmas.List.{append-nil}
-use Rattle.nl_field.specs.CrashStates.{saturated, top}
+use Rattle.nl_field.specs.CrashStates.{Earlier, saturated, top}
 use Rattle.nl_field.specs.Members as members
 use Rattle.nl_tree.specs.Causes.{IsSumSince, NeverFall, WriteFailed, eio_of, erofs_of}
 use Rattle.nl_tree.specs.declared.reply.FaultReply.{FaultReply}
 use Rattle.nl_tree.specs.declared.reply.FaultReply.TheVariants.{Eio, Erofs, Eworn, Edamaged}
 use Rattle.nl_tree.proofs.FaultProofs.{fault_laws}
-use Rattle.nl_flight.specs.Flight.{InFlight}
+use Rattle.nl_flight.specs.Flight.{InFlight, of_worker}
 use Rattle.nl_iface.specs.declared.counts.Counts.{Ghosts}
 use Rattle.nl_core.specs.Goes.{PreservesVolume}
 use Rattle.nl_core.specs.declared.state.Core.{Core}
@@ -19,10 +19,10 @@ use Rattle.nl_turns.specs.History.{IsKnown, IsSyncInRange, Opening, call_at, eff
 use Rattle.nl_turns.specs.declared.entry.Entry.{Entry}
 use Rattle.nl_turns.specs.declared.entry.SyncMark.{SyncMark}
 use Rattle.nl_calls_steps.specs.Calls.{counts_of}
-use Rattle.nl_volume_stage.specs.Standing.{FaultReplyHasCause, MomentsRise, NumbersDiffer, Serves, RepresentsHistory, run_of}
-use Rattle.nl_volume_stage.specs.Turns.{CallsCore, FaultsStay, PreservesCore, IsQuiet}
+use Rattle.nl_volume_stage.specs.Standing.{FaultReplyHasCause, GoalsAreKept, IsGoal, IsSinceOpening, MomentsRise, NumbersDiffer, Serves, RepresentsHistory, run_of}
+use Rattle.nl_volume_stage.specs.Turns.{CallsCore, FaultsStay, GoalsStay, PreservesCore, IsQuiet}
 use Rattle.nl_volume_stage.proofs.Causes.{first_failed, first_sum, later_then, still_cause, still_failed}
-use Rattle.nl_volume_stage.proofs.Histories.{calls_more, effects_more, has_or_last, no_call, no_sync, pairs_more, syncs_in_range, syncs_more}
+use Rattle.nl_volume_stage.proofs.Histories.{calls_more, effects_more, goal_more, has_or_last, no_call, no_sync, pairs_more, syncs_in_range, syncs_more}
 
 -- ---- a turn without an effect
 
@@ -64,7 +64,7 @@ module _ {D : Type 0} (g : Ghosts D) (origin : Core D) (o : Opening) (h : List E
         (λ is. subst (λ (y : Entry). IfSome (fault_of y.fault) (FaultReplyHasCause g.tells o (counts_of g v.device) y)) is (subst (λ (f : Option FaultReply). IfSome f (FaultReplyHasCause g.tells o (counts_of g v.device) e)) (sym no_fault) tt))
         (has_or_last h e x has);
     syncs = syncs_in_range o h e s.syncs (subst (λ (m : SyncMark). IfSome (sync_of m) (λ x. IsSyncInRange o (h ++ e ∷ []) (length h) e.line x)) (sym q.synced) tt);
-    moments = subst (λ xs. MomentsRise o xs v.moment (g.clock v.device)) (sym same_syncs) s.moments;
+    moments = subst (λ xs. MomentsRise o xs v.committed v.moment (g.clock v.device)) (sym same_syncs) s.moments;
   }
 
   quiet_numbers : (flight : List InFlight) (stopped : ℕ) → NumbersDiffer h flight stopped → NumbersDiffer (h ++ e ∷ []) flight stopped
@@ -75,10 +75,16 @@ module _ {D : Type 0} (g : Ghosts D) (origin : Core D) (o : Opening) (h : List E
     one = λ x n has is. ⊎_elim (λ was. numbers.one x n was is) (λ at. absurd (cc (is, at, no_fault))) (has_or_last h e x has);
   }
 
+-- a goal in flight is one with an entry more
+pub goal_longer : (o : Opening) (h : List Entry) (e : Entry) (count line : ℕ) (x : Option ℕ) → IfSome x (IsGoal o h count line) → IfSome x (IsGoal o (h ++ e ∷ []) count line)
+goal_longer o h e count line None is = tt
+goal_longer o h e count line (Some goal) is = goal_more o h e count line goal is
+
 pub quiet_stands : {D : Type 0} (g : Ghosts D) (origin : Core D) (o : Opening) (h : List Entry) (v : Core D) (done : ℕ) (e : Entry) → RepresentsHistory g origin o h v done → IsQuiet e → RepresentsHistory g origin o (h ++ e ∷ []) v done
 quiet_stands g origin o h v done e s q = record {
   serves = quiet_serves g origin o h v done e s.serves q;
   flight = s.flight;
+  goals = λ worker. goal_longer o h e v.count (of_worker v.flight worker).line (of_worker v.flight worker).goal (s.goals worker);
   numbers = quiet_numbers g origin o h v done e s.serves q v.flight v.stopped s.numbers;
 }
 
@@ -121,14 +127,22 @@ module _ {D : Type 0} (g : Ghosts D) (origin : Core D) (o : Opening) (h : List E
   mark_on e None is = is
   mark_on e (Some fault) is = (is.0, is.1, still_cause (opening_counts o) (counts_of g u.device) (counts_of g v.device) later s.since c.counts.write_faults c.counts.clock g.tells o.next_stamp is.0 fault is.2)
 
-  moments_on : (((v.moment ≡ u.moment) × (v.committed ≡ u.committed)) ⊎ ((g.clock u.device < top → g.clock u.device < v.moment) × (g.clock u.device ≤ v.moment))) → MomentsRise o (syncs_of h) v.moment (g.clock v.device)
+  since_on : Earlier (g.clock u.device) v.moment → g.clock u.device ≤ v.moment → Earlier o.clock v.moment
+  since_on later from low =
+      let first = s.since.clock in
+      ⊎_elim (λ below. let far = later below in omega (arith, first, far)) (λ end. omega (arith, low, end, from)) (cases_lt (g.clock u.device) top)
+
+  moments_on : ((v.moment ≡ u.moment) × (v.committed ≡ u.committed)) ⊎ (Earlier (g.clock u.device) v.moment × (g.clock u.device ≤ v.moment)) → MomentsRise o (syncs_of h) v.committed v.moment (g.clock v.device)
   moments_on (inl same) =
       let m = s.moments in
       let is = same.0 in
+      let count = same.1 in
       let clock = a.clock in
       record {
         begins = let one = m.begins in omega (arith, one, is);
         ends = let one = m.ends in omega (arith, one, is, clock);
+        since = subst (λ n. IsSinceOpening o n v.committed) (sym is) (subst (λ n. IsSinceOpening o u.moment n) (sym count) m.since);
+        not_below = let one = m.not_below in omega (arith, one, count);
         rising = m.rising;
         within = λ x has. let k = m.within x has in (k.0, k.1, let two = k.2 in omega (arith, two, is));
       }
@@ -138,6 +152,8 @@ module _ {D : Type 0} (g : Ghosts D) (origin : Core D) (o : Opening) (h : List E
       record {
         begins = let one = s.since.clock in omega (arith, one, up);
         ends = c.core.moment;
+        since = inl (since_on later.0 later.1);
+        not_below = let one = m.not_below in let on = a.onward.committed in omega (arith, one, on);
         rising = m.rising;
         within = λ x has. let k = m.within x has in (k.0, k.1, let two = k.2 in let end = m.ends in omega (arith, two, end, up));
       }
@@ -178,22 +194,32 @@ module _ {D : Type 0} (g : Ghosts D) (origin : Core D) (o : Opening) (h : List E
 
 -- ---- and keeps what is in flight in order
 
-module _ {D : Type 0} (g : Ghosts D) (origin : Core D) (o : Opening) (h : List Entry) (u v : Core D) (done : ℕ) (s : RepresentsHistory g origin o h u done) (c : CallsCore g o u v) where
-  pub calls_stand_with : NumbersDiffer h v.flight v.stopped → RepresentsHistory g origin o h v done
-  calls_stand_with numbers = record { serves = calls_serve g origin o h u v done s.serves c.on; flight = c.flight; numbers = numbers }
+pub goals_on : {D : Type 0} (o : Opening) (h : List Entry) (u v : Core D) → v.count ≡ u.count → GoalsStay u.flight v.flight → GoalsAreKept o h u.count u.flight → GoalsAreKept o h v.count v.flight
+goals_on o h u v count stay goals worker = ⊎_elim
+    (λ none. subst (λ (x : Option ℕ). IfSome x (IsGoal o h v.count (of_worker v.flight worker).line)) (sym none) tt)
+    (λ same.
+    subst (λ n. IfSome (of_worker v.flight worker).goal (IsGoal o h n (of_worker v.flight worker).line)) (sym count)
+    (subst (λ l. IfSome (of_worker v.flight worker).goal (IsGoal o h u.count l)) (sym same.1)
+    (subst (λ (x : Option ℕ). IfSome x (IsGoal o h u.count (of_worker u.flight worker).line)) (sym same.0) (goals worker))))
+    (stay worker)
 
+module _ {D : Type 0} (g : Ghosts D) (origin : Core D) (o : Opening) (h : List Entry) (u v : Core D) (done : ℕ) (s : RepresentsHistory g origin o h u done) (on : PreservesCore g u v) where
   -- where no staging failed, the numbers of failed lines are those of before
-  numbers_stay : FaultsStay u.flight v.flight → NumbersDiffer h v.flight v.stopped
+  pub numbers_stay : FaultsStay u.flight v.flight → NumbersDiffer h v.flight v.stopped
   numbers_stay faults = record {
     past = s.numbers.past;
     kept = λ worker e n has is same. ⊎_elim (λ stays. s.numbers.kept worker e n has is (sym stays ∙ same))
-        (λ none. absurd (no_zero g origin o h u v done s.serves c.on e (fault_of e.fault) n (s.serves.marks e has) is (sym same ∙ none))) (faults worker);
+        (λ none. absurd (no_zero g origin o h u v done s.serves on e (fault_of e.fault) n (s.serves.marks e has) is (sym same ∙ none))) (faults worker);
     apart = λ w w' other some same. ⊎_elim
         (λ one. ⊎_elim (λ two. one ∙ s.numbers.apart w w' other (λ none. some (one ∙ none)) (sym one ∙ (same ∙ two))) (λ none. absurd (some (same ∙ none))) (faults w'))
         (λ none. absurd (some none))
         (faults w);
-    one = none_read_only g origin o h u v done s.serves c.on s.numbers.one (cases_eq u.stopped 0);
+    one = none_read_only g origin o h u v done s.serves on s.numbers.one (cases_eq u.stopped 0);
   }
 
+module _ {D : Type 0} (g : Ghosts D) (origin : Core D) (o : Opening) (h : List Entry) (u v : Core D) (done : ℕ) (s : RepresentsHistory g origin o h u done) (c : CallsCore g o u v) where
+  pub calls_stand_with : NumbersDiffer h v.flight v.stopped → RepresentsHistory g origin o h v done
+  calls_stand_with numbers = record { serves = calls_serve g origin o h u v done s.serves c.on; flight = c.flight; goals = goals_on o h u v c.on.goes.count c.goals s.goals; numbers = numbers }
+
   pub calls_stand : FaultsStay u.flight v.flight → RepresentsHistory g origin o h v done
-  calls_stand faults = calls_stand_with (numbers_stay faults)
+  calls_stand faults = calls_stand_with (numbers_stay g origin o h u v done s c.on faults)

@@ -1,5 +1,5 @@
 -- Stagings that leave the medium, and those that commit nothing.
-use Rattle.std.proofs.Common.{ℕ, ◌+◌, ◌<◌, ◌≤◌, inl, inr, sym, subst, arith}
+use Rattle.std.proofs.Common.{ℕ, ◌<◌, inl, inr, sym, subst, arith}
 use Rattle.nl_tree.specs.declared.turn.Stage.{Stage}
 use Rattle.nl_iface.specs.declared.counts.Counts.{Ghosts}
 use Rattle.nl_core.specs.Core.{names_of}

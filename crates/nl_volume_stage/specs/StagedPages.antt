@@ -3,6 +3,7 @@ use Rattle.std.specs.Prelude.{◌≡◌, ◌≢◌, ◌⊎◌, ℕ, ◌≤◌, �
 use Rattle.nl_field.specs.declared.pointer.Tag.{Tag}
 use Rattle.nl_tree.specs.Represents.{node_reached}
 use Rattle.nl_tree.specs.declared.call.Call.{Call}
+use Rattle.nl_tree.specs.declared.call.Call.TheVariants.{Sync}
 use Rattle.nl_tree.specs.declared.turn.Stage.{Stage}
 use Rattle.nl_tree.specs.declared.turn.Stage.TheVariants as stage
 use Rattle.nl_flight.specs.Flight.{InFlight, IsFlight, of_worker}
@@ -62,11 +63,16 @@ StagesPage g worker line P old new stage.Whole = KeepsLinePages worker line old.
 StagesPage g worker line P old new stage.Stopped = KeepsLinePages worker line old.flight new.flight
 StagesPage g worker line P old new (stage.Lost w f) = KeepsLinePages worker line old.flight new.flight
 
--- What a staging leaves in flight for the worker: this line or none, and no page of another line.
-pub record LeavesInFlight {D : Type 0} (g : Ghosts D) (worker line : ℕ) (P : Tag → Type 0) (old new : Core D)
+-- What a staging of a call does to the pages of its line: a sync stages none.
+abbrev pub StagesPageOf : {D : Type 0} → Ghosts D → Call → ℕ → ℕ → (Tag → Type 0) → Core D → Core D → Stage → Type 0
+StagesPageOf g Sync worker line P old new answer = KeepsLinePages worker line old.flight new.flight
+StagesPageOf g _ worker line P old new answer = StagesPage g worker line P old new answer
+
+-- What a staging of a call leaves in flight for the worker: this line or none, and no page of another line.
+pub record LeavesInFlight {D : Type 0} (g : Ghosts D) (worker line : ℕ) (call : Call) (P : Tag → Type 0) (old new : Core D)
     (answer : Stage) : Type 0 where
   pub line_is : HasLineOrNone new.flight worker line
-  pub pages : StagesPage g worker line P old new answer
+  pub pages : StagesPageOf g call worker line P old new answer
 
 -- ---- writes that failed
 

@@ -1,5 +1,5 @@
 -- For which opening and which history of turns a volume stands.
-use Rattle.std.specs.Prelude.{◌≡◌, ◌≢◌, ◌⊎◌, ℕ, ◌+◌, ◌-◌, ◌<◌, ◌≤◌, List, IfSome, AllPairs, Some, slice_get}
+use Rattle.std.specs.Prelude.{◌≡◌, ◌≢◌, ◌⊎◌, ℕ, ◌+◌, ◌-◌, ◌<◌, ◌≤◌, ◌==◌, List, take, position, IfSome, AllPairs, Some, slice_get}
 use Rattle.std.specs.Int.{div_ceil}
 use Rattle.nl_field.specs.CrashStates.{Earlier, saturated, top}
 use Rattle.nl_field.specs.Members as members
@@ -47,6 +47,18 @@ FlightIsOfLines g opening s flight =
     (worker : ℕ) → (((of_worker flight worker).line ≡ 0) × ((of_worker flight worker).fault ≡ 0))
     ⊎ IsInFlight g opening s worker (of_worker flight worker)
 
+-- The goal of a sync in flight: at least the calls that had their effects as the first staging of its line began, and no more than were
+-- answered since.
+pub record IsGoal (opening : Opening) (history : List Entry) (count line goal : ℕ) : Type 0 where
+  pub begun : ℕ
+  pub staged : position (λ (e : Entry). e.staged == line) history ≡ Some begun
+  pub not_below_begin : saturated (opening.count + effects (take begun history)) ≤ goal
+  pub not_beyond : goal ≤ count
+
+abbrev pub GoalsAreKept : Opening → List Entry → ℕ → List InFlight → Type 0
+GoalsAreKept opening history count flight =
+    (worker : ℕ) → IfSome (of_worker flight worker).goal (IsGoal opening history count (of_worker flight worker).line)
+
 -- ---- the numbers of failed lines
 
 -- Below the greatest, a failed line has a number of its own: no two lines of the history, no line of the history and one in flight, and no
@@ -66,12 +78,20 @@ abbrev pub FaultReplyHasCause : Type 0 → Opening → Counts → Entry → Faul
 FaultReplyHasCause tells opening now entry fault =
     (call : Call) × (call_of opening entry ≡ Some call) × HasCause tells (opening_counts opening) now opening.next_stamp call fault
 
--- The moments of the syncs do not fall. Each is later than the clock of the opening, and no later than the moment of the last commit.
-pub record MomentsRise (opening : Opening) (syncs : List SyncPoint) (moment now : ℕ) : Type 0 where
+-- A commit page was finished since the opening, or as many calls are committed as then.
+abbrev pub IsSinceOpening : Opening → (moment committed : ℕ) → Type 0
+IsSinceOpening opening moment committed = Earlier opening.clock moment ⊎ (committed ≡ opening.count)
+
+-- The moments of the syncs do not fall. Each is no earlier than the clock of the opening, and no later than the moment of the last commit;
+-- one that is no later than the opening made no call durable that was not then. The same holds of the last commit.
+pub record MomentsRise (opening : Opening) (syncs : List SyncPoint) (committed moment now : ℕ) : Type 0 where
   pub begins : opening.clock ≤ moment
   pub ends : moment ≤ now
+  pub since : IsSinceOpening opening moment committed
+  pub not_below : opening.count ≤ committed
   pub rising : AllPairs (λ a b. a.moment ≤ b.moment) syncs
-  pub within : (s : SyncPoint) → members.Has syncs s → Earlier opening.clock s.moment × (opening.clock ≤ s.moment) × (s.moment ≤ moment)
+  pub within : (s : SyncPoint) → members.Has syncs s
+      → IsSinceOpening opening s.moment s.upto × (opening.clock ≤ s.moment) × (s.moment ≤ moment)
 
 -- each is a line as a script has it
 abbrev pub EachIsLine : List Line → Type 0
@@ -95,10 +115,12 @@ pub record Serves {D : Type 0} (g : Ghosts D) (origin : Core D) (opening : Openi
       → WriteFailed (opening_counts opening) (counts_of g v.device) × IsSumSince (opening_counts opening) (counts_of g v.device) v.stopped
   pub marks : (e : Entry) → members.Has history e → IfSome (fault_of e.fault) (FaultReplyHasCause g.tells opening (counts_of g v.device) e)
   pub syncs : SyncsInRange opening history
-  pub moments : MomentsRise opening (syncs_of history) v.moment (g.clock v.device)
+  pub moments : MomentsRise opening (syncs_of history) v.committed v.moment (g.clock v.device)
 
--- The volume serves the history, what is in flight is of lines of the opening, and each failed line has a number of its own.
+-- The volume serves the history, what is in flight is of lines of the opening with the goals that these fixed, and each failed line has a
+-- number of its own.
 pub record RepresentsHistory {D : Type 0} (g : Ghosts D) (origin : Core D) (opening : Opening) (history : List Entry) (v : Core D) (done : ℕ) : Type 0 where
   pub serves : Serves g origin opening history v done
   pub flight : FlightIsOfLines g opening v.device v.flight
+  pub goals : GoalsAreKept opening history v.count v.flight
   pub numbers : NumbersDiffer history v.flight v.stopped

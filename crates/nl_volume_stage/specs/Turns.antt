@@ -1,5 +1,5 @@
 -- What a call of the core, or a step of a file call, means for a volume that stands.
-use Rattle.std.specs.Prelude.{◌≡◌, ◌⊎◌, ◌≤◌, ℕ, List}
+use Rattle.std.specs.Prelude.{◌≡◌, ◌⊎◌, ◌≤◌, ℕ, List, None}
 use Rattle.nl_field.specs.CrashStates.{top}
 use Rattle.nl_tree.specs.Causes.{FaultRose, NeverFall}
 use Rattle.nl_flight.specs.Flight.{InFlight, of_worker}
@@ -24,6 +24,12 @@ pub record IsQuiet (entry : Entry) : Type 0 where
 abbrev pub FaultsStay : List InFlight → List InFlight → Type 0
 FaultsStay old new = (worker : ℕ) → ((of_worker new worker).fault ≡ (of_worker old worker).fault) ⊎ ((of_worker new worker).fault ≡ 0)
 
+-- No goal is fixed: each that is kept was kept before, of the same line.
+abbrev pub GoalsStay : List InFlight → List InFlight → Type 0
+GoalsStay old new =
+    (worker : ℕ) → ((of_worker new worker).goal ≡ None)
+    ⊎ (((of_worker new worker).goal ≡ (of_worker old worker).goal) × ((of_worker new worker).line ≡ (of_worker old worker).line))
+
 -- Clock and count of failed writes are numbers of a `u64`.
 pub record AreCounts {D : Type 0} (g : Ghosts D) (v : Core D) : Type 0 where
   pub clock : g.clock v.device ≤ top
@@ -40,6 +46,7 @@ pub record PreservesCore {D : Type 0} (g : Ghosts D) (old new : Core D) : Type 0
 pub record CallsCore {D : Type 0} (g : Ghosts D) (opening : Opening) (old new : Core D) : Type 0 where
   pub on : PreservesCore g old new
   pub flight : FlightIsOfLines g opening new.device new.flight
+  pub goals : GoalsStay old.flight new.flight
 
 -- A turn began with one volume and has come to another: an operation of the medium failed in it, and no staging has failed yet.
 pub record FailsSince {D : Type 0} (g : Ghosts D) (start now : Core D) : Type 0 where

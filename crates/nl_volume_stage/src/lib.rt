@@ -1,5 +1,5 @@
-//! A volume in its turns: for which opening and history a core stands, what refuses a line before it is tried, the staging of pages ahead
-//! of the effect of their line, and the last commit.
+//! A volume in its turns: for which opening and history a core stands, what refuses a line before it is tried, the staging of pages and
+//! units ahead of the effect of their line, and the last commit.
 #![tactic(auto)]
 
 mod closing;

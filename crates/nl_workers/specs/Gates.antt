@@ -11,7 +11,7 @@ use Rattle.nl_workers.specs.declared.gate.GatePlace.TheVariants.{Before, Staged,
 use Rattle.nl_workers.specs.declared.gate.Told.{Told}
 use Rattle.nl_workers.specs.declared.turn.LineTold.{LineTold}
 
--- how many of these staged a page for the line of this number
+-- how many of these staged a page or a unit for the line of this number
 abbrev pub stagings_of : ℕ → List Entry → ℕ
 stagings_of line es = count_by (λ (e : Entry). e.staged == line && e.more) es
 
@@ -23,12 +23,12 @@ abbrev pub told_of_task : ℕ → DutyAnswer → Option Told
 told_of_task worker Did = Some (record { worker = worker; line = 0; place = After })
 told_of_task worker _ = None
 
--- since the first seat's history pages were staged for the line
+-- since the first seat's history pages or units were staged for the line
 abbrev pub has_staged : ℕ → SeatState → SeatState → Bool
 has_staged line seat after =
     nat_lt (stagings_of line (entries_of seat.number seat.seen)) (stagings_of line (entries_of seat.number after.seen))
 
--- The gate was told of the line before its turns, of its stagings exactly where a page was staged, and of its effect.
+-- The gate was told of the line before its turns, of its stagings exactly where a page or a unit was staged, and of its effect.
 pub record GateWasTold (line : Line) (seat after : SeatState) (told : LineTold) : Type 0 where
   pub before : told.before ≡ told_of line Before
   pub staged : told.staged ≡ (if has_staged line.line seat after then Some (told_of line Staged) else None)

@@ -13,7 +13,7 @@ use Rattle.nl_workers.specs.declared.gate.GatePlace.TheVariants.{Before, Staged,
 abbrev pub HeardAround : (ℕ → ℕ → GatePlace → Type 0) → Line → Type 0
 HeardAround heard line = heard line.worker line.line Before × heard line.worker line.line After
 
--- that a page was staged, of each of the lines for which one of the entries staged one
+-- that a page or a unit was staged, of each of the lines for which one of the entries staged one
 abbrev pub StagingsHeard : (ℕ → ℕ → GatePlace → Type 0) → List Line → List Entry → Type 0
 StagingsHeard heard lines es =
     (i : ℕ) (line : Line) → slice_get lines i ≡ Some line → 0 < stagings_of line.line es → heard line.worker line.line Staged

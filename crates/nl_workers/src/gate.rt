@@ -6,7 +6,7 @@ ghost use Rattle.std.specs.Prelude.{◌≡◌};
 pub enum GatePlace {
     /// Before the line's first turn.
     Before,
-    /// At least one page was staged and no more can be, and the effect is still to come.
+    /// At least one page or unit was staged and no more can be, and the effect is still to come.
     Staged,
     /// The effect is done. Of the cleaner and the handler: a background task did something.
     After,

@@ -5,13 +5,6 @@ use Rattle.nl_calls.specs.Commits.{NeedsNoCommit}
 use Rattle.nl_calls.proofs.Uncommitted.{commits_not, looks_not, not_looking}
 use Rattle.nl_calls.proofs.calls.answer_other.Goals as goal
 
-pub returns-in-Sync-clause-answers : goal.returns-in-Sync-clause-answers
-returns-in-Sync-clause-answers g c =
-    let G = g.D.Counts in
-    let a = c.sync in
-    subst (λ (o : List ℕ). AnswersCall G c.args.worker c.args.call.now c.args.core.now a.new.core a.result.reply o a.result.files) (sym c.requires.nothing)
-    (subst (λ (call : Call). AnswersCall G c.args.worker call c.args.core.now a.new.core a.result.reply [] a.result.files) (sym c.in-Sync.is) a.ensures.answers)
-
 pub returns-in-Clean-clause-answers : goal.returns-in-Clean-clause-answers
 returns-in-Clean-clause-answers g c =
     let G = g.D.Counts in
@@ -39,12 +32,6 @@ returns-in-Read-clause-commit g c needs = c.look.ensures.leaves.commit
 
 pub returns-in-Read-clause-leaves : goal.returns-in-Read-clause-leaves
 returns-in-Read-clause-leaves g c only = c.look.ensures.leaves
-
-pub returns-in-Sync-clause-commit : goal.returns-in-Sync-clause-commit
-returns-in-Sync-clause-commit g c needs = absurd (commits_not c.args.call.now _ needs.plain c.in-Sync.is refl)
-
-pub returns-in-Sync-clause-leaves : goal.returns-in-Sync-clause-leaves
-returns-in-Sync-clause-leaves g c only = absurd (looks_not c.args.call.now _ only c.in-Sync.is refl)
 
 pub returns-in-Clean-clause-commit : goal.returns-in-Clean-clause-commit
 returns-in-Clean-clause-commit g c needs = absurd (commits_not c.args.call.now _ needs.plain c.in-Clean.is refl)

@@ -5,7 +5,8 @@ use Rattle.nl_meta.specs.Pages.{besides_0}
 use Rattle.nl_calls.proofs.Answered.{answer_after}
 use Rattle.nl_calls.proofs.Counted.{goes_counted}
 use Rattle.nl_calls.proofs.Ended.{ends_same}
-use Rattle.nl_calls.proofs.Tried.{fails, meets_fault}
+use Rattle.std.proofs.lemmas.Bool.{false≢true}
+use Rattle.nl_calls.proofs.Tried.{fails, meets_fault, of_names}
 use Rattle.nl_calls.proofs.Uncommitted.{names_dirty}
 use Rattle.nl_calls.proofs.naming.name.Goals as goal
 
@@ -37,7 +38,8 @@ returns-in-Done-clause-answers g c =
     let v = c.commit-committed.new.self in
     let e = c.in-Done.ensures in
     let r = c.name_now-in-Done in
-    answer_after G c.args.call.now _ u v r.new.core e.goes c.args.worker r.result.reply [] r.result.files (ends_same c.args.worker u.flight v.flight e.commits.same_flight c.requires.idle).others r.ensures.answers
+    answer_after G c.args.call.now _ u v r.new.core e.goes c.args.worker r.result.reply [] r.result.files (ends_same c.args.worker u.flight v.flight e.commits.same_flight c.requires.idle).others
+    (λ sync. absurd (false≢true (sym (of_names c.args.call.now c.requires.of_names).0 ∙ sync))) r.ensures.answers
 
 pub returns-in-Lost-clause-answers : goal.returns-in-Lost-clause-answers
 returns-in-Lost-clause-answers g c =

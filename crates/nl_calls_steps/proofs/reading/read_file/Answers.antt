@@ -13,7 +13,7 @@ pub read-answer-requires-clause-leads : goal.read-answer-requires-clause-leads
 read-answer-requires-clause-leads g c =
     let G = g.D.Counts in
     let v = c.args.core.now in
-    files_lead G v.device v.journal v.meta (carried v.flight) v.freeing.items c.args.ino c.args.rec.now c.requires.core.journaled.runs c.requires.core.held c.requires.file
+    files_lead G v.device v.journal v.meta (carried v.flight) v.freeing.items c.args.ino c.args.rec.now _ c.requires.core.journaled.runs c.requires.core.held c.requires.file
 
 pub returns-clause-core : goal.returns-clause-core
 returns-clause-core g c =

@@ -1,4 +1,4 @@
-use Rattle.std.proofs.Common.{◌≡◌, ◌*◌, ◌≤◌, ◌∙◌, List, ap, refl, subst, sym}
+use Rattle.std.proofs.Common.{◌≡◌, ◌*◌, ◌≤◌, ◌∙◌, List, ap, arith, refl, subst, sym}
 use Rattle.nl_device.specs.Kept.{KeptPages}
 use Rattle.nl_device.specs.Retain.{CanRetain, kept_of, retained_at}
 use Rattle.nl_device.specs.Reopened.{CanBeRetained}
@@ -58,7 +58,8 @@ returns-clause-core g c =
     (λ p page has. found_is_seen s.shape seen p page (subst (λ (k : KeptPages). Has (found_by_number k) (p, page)) c.requires.can.kept has))
     e.medium (retained_at (kept_of s) w.kept.items) e.retained c.device_stands-2.ensures.table c.device_stands-2.ensures.names e.space.lands (one_kept t.pseg) c.device_stands-2.ensures.pages
     (subst IsFlight c.requires.flight c.lines_stand.ensures) c.requires.freeing
-    (subst (λ (h : Shape). h.pblocks * h.pages ≤ c.args.freeing.room) c.requires.shape c.requires.room) c.retain.ensures.formed)
+    (subst (λ (h : Shape). h.pblocks * h.pages ≤ c.args.freeing.room) c.requires.shape c.requires.room) c.retain.ensures.formed
+    (let calls = c.count_of-count.type_inv in let same = c.count_of-count.ensures in omega (arith, calls, same)))
 
 pub returns-clause-stands : goal.returns-clause-stands
 returns-clause-stands g c tells image tree over =

@@ -114,6 +114,7 @@ returns-in-Done g c =
               (record { same_shape = e.passes.named.same_shape; tables = e.passes.named.tables; stands = e.stands; finishes = e.finishes; writes = e.writes });
           first_decided = subst (λ (n : Pages). IsDecided c.complete-first.result.decided p q n.frozen mid.frozen) is (is_decided_by G s m p q c.store_count.new.meta mid.frozen c.complete-first.result.decided e.decided);
           second = inr (
+            refl,
             c.stands.ensures,
             can,
             record {
@@ -132,7 +133,7 @@ returns-in-Done g c =
             (part_paid G m t q r (with_frozen mid) now.frozen f.clock (subst (λ (x : Phase). IsPhase x (length mid.dirty)) (sym ends.0) tt)
             f.finishes.number f.finishes.begun_stays c.commit_changes-rest.result.decided f.decided);
       };
-      earlier = if_some (StillAwaitsCommitPage p q c.store_count.new.meta.frozen mid.frozen) (DecidesAt G s m p q c.store_count.new.meta) (EarlierAt G s t p r pages now) c.complete-first.result.decided e.decided (λ at d. record {
+      earlier = if_some (StillAwaitsCommitPage p q c.store_count.new.meta.frozen mid.frozen) (DecidesAt G s m p q c.store_count.new.meta mid.frozen) (EarlierAt G s t p r pages now) c.complete-first.result.decided e.decided (λ at d. record {
         later = d.later;
         from = d.from;
         to = let a = d.to in let b = f.clock in omega (arith, a, b);
@@ -141,7 +142,7 @@ returns-in-Done g c =
             (subst (λ (n : Pages). HasNumber p (length n.frozen.addresses) → CrashStatesHave G (Turns ⊤ at (LeavesEither G s (committed_on G s) (finished_on G s p n)) (LeavesOne G s (finished_on G s p n))) s m) is (d.stops tells) (number_p numbers))
             (f.writes tells (number_q numbers)).left.stops;
       });
-      decided = if_some (StillAwaitsCommitPage q r (dirty_pages mid) now.frozen) (DecidesAt G m t q r (with_frozen mid)) (ChangesAt G s t p r pages now) c.commit_changes-rest.result.decided f.decided (λ at d. record {
+      decided = if_some (StillAwaitsCommitPage q r (dirty_pages mid) now.frozen) (DecidesAt G m t q r (with_frozen mid) now.frozen) (ChangesAt G s t p r pages now) c.commit_changes-rest.result.decided f.decided (λ at d. record {
         later = earlier_by (G.clock s) (G.clock m) at e.clock d.later d.from;
         from = let a = e.clock in let b = d.from in omega (arith, a, b);
         to = d.to;
@@ -189,12 +190,12 @@ returns-in_default g c =
           first = subst (λ (n : Pages). Completes G D1 s p n m q mid) is
               (record { same_shape = e.passes.named.same_shape; tables = e.passes.named.tables; stands = e.stands; finishes = e.finishes; writes = e.writes });
           first_decided = subst (λ (n : Pages). IsDecided c.complete-first.result.decided p q n.frozen mid.frozen) is (is_decided_by G s m p q c.store_count.new.meta mid.frozen c.complete-first.result.decided e.decided);
-          second = inl (off, refl, refl, refl, refl);
+          second = inl (refl, off, refl, refl, refl, refl);
         };
         paid = part_paid G s m p q c.store_count.new.meta mid.frozen e.clock (subst (λ (n : Pages). IsPhase p.phase (length n.frozen.addresses)) (sym is) c.requires.journaled.order.phase)
             e.finishes.number e.finishes.begun_stays c.complete-first.result.decided e.decided;
       };
-      earlier = if_some (StillAwaitsCommitPage p q c.store_count.new.meta.frozen mid.frozen) (DecidesAt G s m p q c.store_count.new.meta) (EarlierAt G s m p q pages mid) c.complete-first.result.decided e.decided (λ at d. record {
+      earlier = if_some (StillAwaitsCommitPage p q c.store_count.new.meta.frozen mid.frozen) (DecidesAt G s m p q c.store_count.new.meta mid.frozen) (EarlierAt G s m p q pages mid) c.complete-first.result.decided e.decided (λ at d. record {
         later = d.later;
         from = d.from;
         to = d.to;

@@ -1,4 +1,4 @@
-use Rattle.std.proofs.Common.{◌≡◌, ℕ, ⊎_elim, ◌+◌, ◌<◌, length, sym, ◌∙◌, subst, arith}
+use Rattle.std.proofs.Common.{◌≡◌, ℕ, ⊎_elim, ◌+◌, ◌<◌, length, refl, sym, ◌∙◌, subst, arith}
 use Rattle.std.specs.Prelude.{⊤}
 use Rattle.nl_field.specs.CrashStates.{Earlier, Turns}
 use Rattle.nl_field.specs.declared.answers.VirtualWrite.TheVariants as write
@@ -63,8 +63,12 @@ returns-in-Done-clause-decided g c =
     let b = f.clock.clock in
     let more = c.if-left-pages.false in
     let units = c.left.ensures in
+    let few = few_of q mid.frozen pages.frozen c.frozen_len-pages.result count (e.finishes.left c.in-Done.is) e.finishes.frozen in
+    let rest = f.finishes.fewer in
+    let few_r = few_of r now.frozen mid.frozen (length mid.frozen.addresses) refl (omega (arith, few, rest)) f.finishes.frozen in
     record {
       was_open = omega (arith, more, units, count);
+      is_shut = λ opens. let no : ⊥ = omega (arith, few_r, opens) in no;
       number = ⊎_elim (λ same. same ∙ number) (λ all. all ∙ e.finishes.begun_stays) f.finishes.number;
       later = subst (λ (k : ℕ). Earlier (G.clock s) k) (sym at) (e.clock.later (c.in-Done.is, omega (arith, more, units)));
       from = omega (arith, at, a);
@@ -141,6 +145,7 @@ returns-in_default g c =
         waits = e.finishes.waits;
         frozen = e.finishes.frozen;
         none = e.finishes.none;
+        fewer = e.finishes.fewer;
       };
       decided = λ was. open_still p q pages now c.frozen_len-pages.result (c.finish.result ≡ write.Done) off count e.finishes;
       writes = e.writes;

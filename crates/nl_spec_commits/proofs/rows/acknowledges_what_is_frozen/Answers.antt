@@ -1,4 +1,4 @@
-use Rattle.std.proofs.Common.{ℕ, ◌≤◌, arith}
+use Rattle.std.proofs.Common.{◌≤◌, arith}
 use Rattle.nl_spec_commits.proofs.rows.acknowledges_what_is_frozen.Goals as goal
 
 more : 4 ≤ 3 → ⊥

@@ -1,5 +1,6 @@
 use Rattle.std.proofs.Common.{◌≡◌, inl, Some, [], ap, subst, sym, arith}
 use Rattle.std.specs.Prelude.{slice_get}
+use Rattle.nl_core.specs.Units.{goal_or}
 use Rattle.nl_core.specs.declared.state.Core.{Core}
 use Rattle.nl_flight.specs.Flight.{InFlight}
 use Rattle.nl_testkit_still.specs.contracts.counts.StillCounts.TheImpl.{ghosts}
@@ -22,6 +23,7 @@ answer_call-answer-requires c =
       };
       runs = r.runs;
       bounded = c.requires.line.bounded;
+      goal = let all = ap (λ (y : InFlight). goal_or y.goal c.args.core.now.count) r.idle in omega (arith, all);
       files = r.counted;
       staged = λ place page at. let none : slice_get [] place ≡ Some page = subst (λ (y : InFlight). slice_get y.pages place ≡ Some page) r.idle at in absurd (cc none);
       others = r.few;

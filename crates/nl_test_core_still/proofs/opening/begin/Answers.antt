@@ -1,4 +1,4 @@
-use Rattle.std.proofs.Common.{◌*◌, ◌≤◌, subst, sym}
+use Rattle.std.proofs.Common.{◌*◌, ◌≤◌, arith, subst, sym}
 use Rattle.nl_core.specs.Core.{IsCore}
 use Rattle.nl_core.specs.declared.state.Core.{Core}
 use Rattle.nl_field.specs.declared.shape.Shape.{Shape}
@@ -20,7 +20,8 @@ returns-clause-core c =
     subst (λ (x : Core Still). IsCore ghosts x)
     (made ghosts s seen w c.args.freeing c.args.shape c.args.flight c.clock-moment.result (sym c.requires.idle.same) c.requires.flight (sym c.clock-moment.ensures))
     (begun_core ghosts s seen w c.args.freeing idle c.requires.walked c.requires.kept (subst IsFlight c.requires.flight c.lines_stand.ensures) c.requires.freeing
-    (subst (λ (h : Shape). h.pblocks * h.pages ≤ c.args.freeing.room) (sym c.requires.idle.same) c.requires.room))
+    (subst (λ (h : Shape). h.pblocks * h.pages ≤ c.args.freeing.room) (sym c.requires.idle.same) c.requires.room)
+    (let calls = c.count_of-count.type_inv in let same = c.count_of-count.ensures in omega (arith, calls, same)))
 
 pub returns-clause-new : goal.returns-clause-new
 returns-clause-new c =

@@ -1,5 +1,5 @@
 use Rattle.std.proofs.Common.{◌∙◌, inl, inr, ⊎_elim, refl, sym}
-use Rattle.nl_volume_stage.proofs.Nexts.{staged_dropped}
+use Rattle.nl_volume_stage.proofs.Nexts.{goal_dropped, staged_dropped}
 use Rattle.nl_volume_stage.proofs.Pages.{dropped_pages, own_pages}
 use Rattle.nl_volume_stage.proofs.Stages.{passes_dropped, passes_none}
 use Rattle.nl_core.proofs.LastCommits.{drops_leaves, drops_room, leaves_none, room_none}
@@ -56,3 +56,14 @@ returns-else-now-ne0-clause-kept g c = leaves_none g.D.Counts c.args.core.now
 
 pub returns-else-now-ne0-clause-room : goal.returns-else-now-ne0-clause-room
 returns-else-now-ne0-clause-room g c = room_none g.D.Counts 0 c.args.core.now
+
+pub returns-then-now-line-clause-goal : goal.returns-then-now-line-clause-goal
+returns-then-now-line-clause-goal g c =
+    let G = g.D.Counts in
+    goal_dropped G c.args.worker c.args.line c.args.core.now c.drop_line.new.self c.requires.stands.4.serves.core c.requires.known c.requires.some (λ same. c.if-now-line.true (c.line-now.ensures.line ∙ same)) c.drop_line.ensures.dropped
+
+pub returns-then-now-line-clause-others : goal.returns-then-now-line-clause-others
+returns-then-now-line-clause-others g c = c.drop_line.ensures.dropped.others
+
+pub returns-else-now-ne0-clause-others : goal.returns-else-now-ne0-clause-others
+returns-else-now-ne0-clause-others g c = refl

@@ -6,10 +6,11 @@ use Rattle.nl_tree.specs.declared.turn.Stage.TheVariants as stage
 use Rattle.nl_volume_stage.specs.Staging.{StagesOn}
 use Rattle.nl_volume_stage.proofs.Few.{place_below}
 use Rattle.nl_volume_stage.proofs.Flights.{faults_on}
-use Rattle.nl_volume_stage.proofs.Pages.{leaves_failed, leaves_lost, leaves_staged, leaves_tried, put_fault, put_line, tried_not, tried_writable}
+use Rattle.nl_volume_stage.proofs.Pages.{leaves_call, leaves_failed, leaves_lost, leaves_staged, leaves_tried, put_fault, put_line, tried_not, tried_writable}
 use Rattle.nl_volume_stage.proofs.Stages.{keeps_line, passes_kept, stages_failed, stages_lost, stages_put, stages_tried}
 use Rattle.nl_core.specs.LastCommit.{KeepsCommit}
 use Rattle.nl_volume_stage.proofs.Uncommitted.{noted_commit, tried_commit}
+use Rattle.nl_volume_stage.proofs.Serving.{goals_within}
 use Rattle.nl_volume_stage.proofs.staging.stage_page.Goals as goal
 
 pub program-programmed-requires-clause-place : goal.program-programmed-requires-clause-place
@@ -31,7 +32,7 @@ returns-in-InFlight-clause-stages g c =
     stages_tried G c.args.worker c.args.line c.args.call.now u v stage.Staged
     (stages_put G c.args.worker c.args.line c.args.call.now u v core e.core c.counts.ensures c.requires.known c.requires.some _ e.goes
     c.args.tag main e.programs c.requires.line c.requires.next c.fill_page.ensures
-    (place_below c.args.call.now c.args.tag.index _ c.requires.stands.5.bounded.bytes c.requires.next.index c.requires.next.whole))
+    (place_below c.args.call.now c.args.tag.index _ c.requires.stands.5.bounded.bytes c.requires.next.index c.requires.next.whole) (goals_within G c.requires.stands.0 c.requires.stands.1 c.requires.stands.2 c.args.core.now c.requires.stands.3 c.requires.stands.4))
     core e.core c.device_stands-2.ensures.volume c.device_stands-2.ensures.pages c.counts.ensures c.requires.known c.requires.some
     (put_line G c.args.worker c.args.line u v core c.requires.known c.requires.some c.args.tag main e.programs c.requires.line)
     (put_fault G c.args.worker c.args.line u v core c.requires.known c.requires.some c.args.tag main e.programs c.requires.line)
@@ -51,9 +52,10 @@ returns-in-InFlight-clause-in_flight g c =
     let u = c.args.core.now in
     let v = c.program-programmed.new.self in
     let e = c.in-InFlight.ensures in
-    leaves_tried G c.args.worker c.args.line (λ (tag : Tag). tag ≡ c.args.tag) u v e.core c.requires.known c.requires.some stage.Staged
+    leaves_call G c.args.worker c.args.line (λ (tag : Tag). tag ≡ c.args.tag) u c.end_tried.new.core c.end_tried.result c.args.call.now c.requires.no_sync
+    (leaves_tried G c.args.worker c.args.line (λ (tag : Tag). tag ≡ c.args.tag) u v e.core c.requires.known c.requires.some stage.Staged
     (leaves_staged G c.args.worker c.args.line u v c.requires.stands.4.serves.core c.requires.known c.requires.some c.args.tag c.fill_page.new.page.main e.programs c.requires.line)
-    c.end_tried.new.core c.end_tried.result c.end_tried.ensures
+    c.end_tried.new.core c.end_tried.result c.end_tried.ensures)
 
 pub returns-in-InFlight-clause-unfailed : goal.returns-in-InFlight-clause-unfailed
 returns-in-InFlight-clause-unfailed g c far =
@@ -67,7 +69,7 @@ returns-in-Lost-clause-stages g c =
     let e = c.in-Lost.ensures in
     let core = c.requires.stands.4.serves.core in
     stages_tried G c.args.worker c.args.line c.args.call.now u v (stage.Lost c.in-Lost.wanted c.in-Lost.found)
-    (stages_lost G c.args.worker c.args.line c.args.call.now u v (passes_kept G c.args.worker c.args.line u v e.core c.counts.ensures _ e.goes e.programs.0) c.in-Lost.wanted c.in-Lost.found
+    (stages_lost G c.args.worker c.args.line c.args.call.now u v (passes_kept G c.args.worker c.args.line u v e.core c.counts.ensures _ e.goes e.programs.0 (goals_within G c.requires.stands.0 c.requires.stands.1 c.requires.stands.2 c.args.core.now c.requires.stands.3 c.requires.stands.4)) c.in-Lost.wanted c.in-Lost.found
     (e.programs.2, λ same. e.programs.1 (sym same)))
     core e.core c.device_stands-2.ensures.volume c.device_stands-2.ensures.pages c.counts.ensures c.requires.known c.requires.some
     (keeps_line u.flight v.flight c.args.worker c.args.line e.programs.0 c.requires.line) (faults_on u v e.programs.0)
@@ -87,10 +89,11 @@ returns-in-Lost-clause-in_flight g c =
     let u = c.args.core.now in
     let v = c.program-programmed.new.self in
     let e = c.in-Lost.ensures in
-    leaves_tried G c.args.worker c.args.line (λ (tag : Tag). tag ≡ c.args.tag) u v e.core c.requires.known c.requires.some (stage.Lost c.in-Lost.wanted c.in-Lost.found)
+    leaves_call G c.args.worker c.args.line (λ (tag : Tag). tag ≡ c.args.tag) u c.end_tried-in-Lost.new.core c.end_tried-in-Lost.result c.args.call.now c.requires.no_sync
+    (leaves_tried G c.args.worker c.args.line (λ (tag : Tag). tag ≡ c.args.tag) u v e.core c.requires.known c.requires.some (stage.Lost c.in-Lost.wanted c.in-Lost.found)
     (leaves_lost G c.args.worker c.args.line (λ (tag : Tag). tag ≡ c.args.tag) u v c.requires.some e.programs.0 c.requires.stands.4.serves.core c.requires.line
     (keeps_line u.flight v.flight c.args.worker c.args.line e.programs.0 c.requires.line) c.in-Lost.wanted c.in-Lost.found)
-    c.end_tried-in-Lost.new.core c.end_tried-in-Lost.result c.end_tried-in-Lost.ensures
+    c.end_tried-in-Lost.new.core c.end_tried-in-Lost.result c.end_tried-in-Lost.ensures)
 
 pub returns-in-Lost-clause-unfailed : goal.returns-in-Lost-clause-unfailed
 returns-in-Lost-clause-unfailed g c far =
@@ -104,7 +107,7 @@ returns-in-Fault-clause-stages g c =
     let e = c.in-Fault.ensures in
     let noted = c.note_failure.ensures.noted in
     subst (λ (x : Core g.row.D.Denot). StagesOn G c.args.worker c.args.line c.args.call.now u x stage.Fault) (sym noted)
-    (stages_failed G c.args.worker c.args.line c.args.call.now u v (passes_kept G c.args.worker c.args.line u v e.core c.counts.ensures _ e.goes e.programs)
+    (stages_failed G c.args.worker c.args.line c.args.call.now u v (passes_kept G c.args.worker c.args.line u v e.core c.counts.ensures _ e.goes e.programs (goals_within G c.requires.stands.0 c.requires.stands.1 c.requires.stands.2 c.args.core.now c.requires.stands.3 c.requires.stands.4))
     c.requires.stands.4.serves.core e.core c.device_stands-2.ensures.volume c.device_stands-2.ensures.pages c.counts.ensures c.requires.known c.requires.some
     (keeps_line u.flight v.flight c.args.worker c.args.line e.programs c.requires.line) (e.faults refl) (faults_on u v e.programs)
     (subst (λ (x : Core g.row.D.Denot). IsFlight x.flight) noted c.note_failure.ensures.lines))
@@ -115,8 +118,9 @@ returns-in-Fault-clause-in_flight g c =
     let u = c.args.core.now in
     let v = c.program-programmed.new.self in
     let e = c.in-Fault.ensures in
-    leaves_failed G c.args.worker c.args.line (λ (tag : Tag). tag ≡ c.args.tag) u v c.requires.some e.programs c.requires.stands.4.serves.core c.requires.line
-    (keeps_line u.flight v.flight c.args.worker c.args.line e.programs c.requires.line) e.core c.requires.known _ c.note_failure.ensures.noted
+    leaves_call G c.args.worker c.args.line (λ (tag : Tag). tag ≡ c.args.tag) u c.note_failure.new.self stage.Fault c.args.call.now c.requires.no_sync
+    (leaves_failed G c.args.worker c.args.line (λ (tag : Tag). tag ≡ c.args.tag) u v c.requires.some e.programs c.requires.stands.4.serves.core c.requires.line
+    (keeps_line u.flight v.flight c.args.worker c.args.line e.programs c.requires.line) e.core c.requires.known _ c.note_failure.ensures.noted)
 
 pub returns-in-Fault-clause-unfailed : goal.returns-in-Fault-clause-unfailed
 returns-in-Fault-clause-unfailed g c far = absurd (far refl)

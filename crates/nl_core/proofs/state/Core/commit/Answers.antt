@@ -1,10 +1,10 @@
-use Rattle.std.proofs.Common.{◌+◌, ◌∙◌, ap, subst}
+use Rattle.std.proofs.Common.{◌+◌, ◌∙◌, length, ap, subst}
 use Rattle.std.specs.Prelude.{min}
 use Rattle.nl_field.specs.declared.answers.VirtualWrite.{VirtualWrite}
 use Rattle.nl_iface.specs.Answers.{LosesStamp}
 use Rattle.nl_core.specs.Core.{begun_of}
 use Rattle.nl_core.specs.Writing.{Settles}
-use Rattle.nl_core.proofs.Settled.{commits_all, settled_core, settled_goes}
+use Rattle.nl_core.proofs.Settled.{commits_all, committed_core, committed_goes}
 use Rattle.nl_core.proofs.Written.{written_core}
 use Rattle.nl_core.proofs.WrittenTrees.{written_goes}
 use Rattle.nl_core.proofs.state.Core.commit.Goals as goal
@@ -16,8 +16,8 @@ returns-in-Done-clause-core g c =
     let w = c.write_all.new.self in
     let u = c.settle.new.self in
     let e = c.write_all.ensures in
-    let s : Settles G (begun_of v + 1) w u = subst (λ n. Settles G n w u) c.mark-mark.ensures.mark c.settle.ensures.settled in
-    settled_core G v w u c.write_all.result e.written c.requires.core e.volume c.mark-mark.ensures.most e.stores e.formed c.requires.writes e.pages c.in-Done.is s c.settle.ensures.table c.settle.ensures.stores c.settle.ensures.formed
+    let s : Settles G (length w.freeing.items) (begun_of v + 1) w u = subst (λ n. Settles G n (begun_of v + 1) w u) c.len-due.ensures.count (subst (λ n. Settles G c.len-due.result n w u) c.mark-mark.ensures.mark c.settle.ensures.settled) in
+    committed_core G v w u c.write_all.result e.written c.requires.core e.volume c.mark-mark.ensures.most e.stores e.formed c.requires.writes e.pages c.in-Done.is s c.settle.ensures.table c.settle.ensures.stores c.settle.ensures.formed
 
 pub returns-in-Done-clause-goes : goal.returns-in-Done-clause-goes
 returns-in-Done-clause-goes g c =
@@ -26,8 +26,8 @@ returns-in-Done-clause-goes g c =
     let w = c.write_all.new.self in
     let u = c.settle.new.self in
     let e = c.write_all.ensures in
-    let s : Settles G (begun_of v + 1) w u = subst (λ n. Settles G n w u) c.mark-mark.ensures.mark c.settle.ensures.settled in
-    settled_goes G v w u c.write_all.result e.written c.requires.core e.volume c.mark-mark.ensures.most e.stores e.formed c.requires.writes e.pages c.in-Done.is s c.settle.ensures.table c.settle.ensures.stores
+    let s : Settles G (length w.freeing.items) (begun_of v + 1) w u = subst (λ n. Settles G n (begun_of v + 1) w u) c.len-due.ensures.count (subst (λ n. Settles G c.len-due.result n w u) c.mark-mark.ensures.mark c.settle.ensures.settled) in
+    committed_goes G v w u c.write_all.result e.written c.requires.core e.volume c.mark-mark.ensures.most e.stores e.formed c.requires.writes e.pages c.in-Done.is s c.settle.ensures.table c.settle.ensures.stores
 
 pub returns-in-Done-clause-commits : goal.returns-in-Done-clause-commits
 returns-in-Done-clause-commits g c =
@@ -36,7 +36,7 @@ returns-in-Done-clause-commits g c =
     let w = c.write_all.new.self in
     let u = c.settle.new.self in
     let e = c.write_all.ensures in
-    let s : Settles G (begun_of v + 1) w u = subst (λ n. Settles G n w u) c.mark-mark.ensures.mark c.settle.ensures.settled in
+    let s : Settles G (length w.freeing.items) (begun_of v + 1) w u = subst (λ n. Settles G n (begun_of v + 1) w u) c.len-due.ensures.count (subst (λ n. Settles G c.len-due.result n w u) c.mark-mark.ensures.mark c.settle.ensures.settled) in
     commits_all G v w u c.write_all.result e.written c.requires.core e.volume c.mark-mark.ensures.most e.stores e.formed c.requires.writes e.pages c.in-Done.is s c.settle.ensures.table c.settle.ensures.stores
     c.min.result (c.min.ensures ∙ ap (λ n. min n 9223372036854775807) c.mark-mark.ensures.mark)
 

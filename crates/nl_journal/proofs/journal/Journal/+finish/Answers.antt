@@ -72,6 +72,7 @@ returns-in_default g m c =
       finishes = record {
         left = f.finishes.left;
         more = f.finishes.more;
+        fewer = let rest = f.finishes.fewer in omega (arith, rest, units_same);
         begun_stays = f.finishes.begun_stays ∙ begun_same;
         number = number_step p q r pages mid_pages goes.1 begun_same f.finishes.number;
         kept = f.finishes.kept ∙ ap (λ (n : Pages). record n { frozen = new_pages.frozen }) goes.2;

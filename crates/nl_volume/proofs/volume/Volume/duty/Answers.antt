@@ -2,7 +2,7 @@ use Rattle.std.proofs.Common.{◌∙◌, sym}
 use Rattle.nl_device.specs.contracts.counts.DeviceCounts.TheImpl.{ghosts}
 use Rattle.nl_calls.proofs.Counted.{goes_counted}
 use Rattle.nl_volume_stage.proofs.Alike.{line_alike}
-use Rattle.nl_volume_stage.proofs.Serving.{duty_stands, never_fall, no_more, staged_same, stays_read_only}
+use Rattle.nl_volume_stage.proofs.Serving.{duty_stands, goals_within, never_fall, no_more, staged_same, stays_read_only}
 use Rattle.nl_volume.proofs.volume.Volume.duty.Goals as goal
 
 pub returns-clause-stands : goal.returns-clause-stands
@@ -19,7 +19,11 @@ returns-clause-counts g c =
     never_fall G 512 c.args.self.now.core c.duty-answer.new.self c.requires.3.0.serves.core c.duty-answer.ensures.goes
 
 pub returns-clause-less : goal.returns-clause-less
-returns-clause-less g c = no_more c.args.self.now.core c.duty-answer.new.self c.duty-answer.ensures.lines
+returns-clause-less g c =
+    let G = ghosts g.row.M g.M.Nand g.M.Nand-dict in
+    let r = c.requires in
+    let u = c.args.self.now.core in
+    no_more G 512 u c.duty-answer.new.self c.duty-answer.ensures.goes (goals_within G r.0.core r.1 r.2 u c.args.self.now.done r.3.0) c.duty-answer.ensures.lines
 
 pub returns-clause-read_only : goal.returns-clause-read_only
 returns-clause-read_only g c =

@@ -11,7 +11,8 @@ use Rattle.nl_volume_stage.specs.Serving.{refusing_of, some_number, to_stage_of}
 use Rattle.nl_volume_stage.specs.Standing.{RepresentsHistory}
 use Rattle.nl_volume.proofs.Answering.{cause_since, later, line_stands}
 use Rattle.nl_volume.proofs.Effected.{line_answers, line_less, line_ordinal, line_place, line_staged, stays_read}
-use Rattle.nl_volume_stage.proofs.Serving.{worker_known}
+use Rattle.nl_volume_stage.proofs.Serving.{goals_within, worker_known}
+use Rattle.nl_core.specs.Units.{goal_of, goal_or}
 use Rattle.nl_core.specs.LastCommit.{KeepsCommit, LeavesMedium}
 use Rattle.nl_volume.proofs.Uncommitted.{counted_commit, counted_leaves}
 use Rattle.nl_volume.proofs.volume.Volume.effect.Goals as goal
@@ -55,7 +56,8 @@ returns-clause-less g c =
     let u = c.args.self.now.core in
     let w = c.answer-reply.new.core in
     let x = c.answer-reply.ensures.answers in
-    subst (λ (y : Core (Device g.row.M.Denot)). (k l : ℕ) → k ≢ c.args.worker → to_stage_of y.flight k l ≤ to_stage_of u.flight k l) (sym c.count_call.ensures) (line_less G u w c.args.worker c.args.line c.args.call.now c.answer-reply.result.reply c.answer-reply.new.out c.answer-reply.result.files x)
+    subst (λ (y : Core (Device g.row.M.Denot)). (k l : ℕ) → k ≢ c.args.worker → to_stage_of y k l ≤ to_stage_of u k l) (sym c.count_call.ensures)
+    (line_less G u w c.args.worker c.args.line c.args.call.now c.answer-reply.result.reply c.answer-reply.new.out c.answer-reply.result.files x (goals_within G r.0.core r.1 r.2 u c.args.self.now.done r.3.0))
 
 pub returns-clause-ended : goal.returns-clause-ended
 returns-clause-ended g c =
@@ -69,7 +71,7 @@ returns-clause-read_only g c =
     let w = c.answer-reply.new.core in
     let x = c.answer-reply.ensures.answers in
     subst (λ (y : Core (Device g.row.M.Denot)). StaysReadOnly (counts_of G u.device) (counts_of G y.device) (some_number u.stopped) (some_number y.stopped)) (sym c.count_call.ensures)
-    (stays_read G c.args.call.now u w r.3.0.serves.core c.answer-reply.result.reply x.effect)
+    (stays_read G (goal_or (goal_of u.flight c.args.worker c.args.line) u.count) c.args.call.now u w r.3.0.serves.core c.answer-reply.result.reply x.effect)
 
 pub returns-clause-staged : goal.returns-clause-staged
 returns-clause-staged g c =

@@ -2,7 +2,7 @@ use Rattle.std.proofs.Common.{◌∙◌, sym}
 use Rattle.nl_device.specs.contracts.counts.DeviceCounts.TheImpl.{ghosts}
 use Rattle.nl_core.proofs.Renamed.{as_many}
 use Rattle.nl_calls.proofs.Counted.{goes_counted}
-use Rattle.nl_volume_stage.proofs.Serving.{worker_known}
+use Rattle.nl_volume_stage.proofs.Serving.{goals_within, worker_known}
 use Rattle.nl_volume_stage.proofs.Staged.{staged_counts, staged_failed, staged_faults, staged_less, staged_read_only, staged_stands}
 use Rattle.nl_volume.proofs.volume.Volume.stage.Goals as goal
 
@@ -40,7 +40,7 @@ returns-clause-less g c =
     let u = c.args.self.now.core in
     let w = c.stage_line.new.core in
     let x = c.stage_line.ensures.stages in
-    staged_less G c.args.worker c.args.line c.args.call.now u w c.stage_line.result r.3.0.serves.core x
+    staged_less G c.args.worker c.args.line c.args.call.now u w c.stage_line.result r.3.0.serves.core x (goals_within G r.0.core r.1 r.2 u c.args.self.now.done r.3.0)
 
 pub returns-clause-read_only : goal.returns-clause-read_only
 returns-clause-read_only g c =
