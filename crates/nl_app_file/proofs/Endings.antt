@@ -16,9 +16,12 @@ use Rattle.nl_cmd_words.specs.Paths.{path_word}
 use Rattle.nl_tree.specs.declared.call.Line.{Line}
 use Rattle.nl_tree.specs.declared.reply.Refusal.{Refusal}
 use Rattle.nl_imgfile.specs.DiskImage.{image_of_store}
+use Rattle.nl_tree.specs.declared.reply.Refusal.TheVariants.{Efbig, Eisdir}
+use Rattle.nl_cmd_put.specs.Putting.{BytesEnd, PutEnds, PutRan, RefusedBefore, all_read, at_root, no_memory, no_memory_to_read, not_opened, too_long}
+use Rattle.nl_cmd_put.specs.Putting.{ran as put_ran, source_fault as put_source_fault}
 use Rattle.nl_top.specs.Complete.{CarriesOut}
 use Rattle.nl_top.specs.Leaving.{Leaving, new_volume, nothing_new, prefixes_of}
-use Rattle.nl_top.specs.Ends.{CallEnds, MayRefuse, checks, faulty_words, formats, gets, maps, maps_as_picture, reports, runs, shows_tree, soaks}
+use Rattle.nl_top.specs.Ends.{CallEnds, MayRefuse, checks, faulty_words, formats, gets, maps, maps_as_picture, puts, reports, runs, shows_tree, soaks}
 use Rattle.nl_top.specs.Soak.{Summarises}
 use Rattle.nl_top.specs.RunEnds.{RunEnds, ScriptEnds, PrintsAnswers, not_run, ran, runs_script, script_refused, source_fault, source_no_memory}
 use Rattle.nl_app_file.specs.Ended.{EndsOnFile, forms}
@@ -59,6 +62,48 @@ module _ {tells : Type 0} {leaves leaves' : Leaving → Type 0} (by : (l : Leavi
   script_by (script_refused line column why two refuses kept before) = script_refused line column why two refuses (by nothing_new kept) before
   script_by (runs_script lines reads ends) = runs_script lines reads (ran_by lines PrintsAnswers ends)
 
+  put_ran_by : (path : List (List ℕ)) (bytes : List ℕ) → PutRan tells path bytes (λ run. leaves (prefixes_of run)) sink sink' medium medium' order syncs refused status
+      → PutRan tells path bytes (λ run. leaves' (prefixes_of run)) sink sink' medium medium' order syncs refused status
+  put_ran_by path bytes r =
+      record {
+        course = r.course;
+        end = r.end;
+        lost = r.lost;
+        worn = r.worn;
+        runs = record {
+          opens = r.runs.opens;
+          begins = r.runs.begins;
+          own = r.runs.own;
+          beside = r.runs.beside;
+          under_way = r.runs.under_way;
+          ended = r.runs.ended;
+          causes = r.runs.causes;
+          stopped = λ told young. let safe = r.runs.stopped told young in record { starts = safe.starts; leaves = by _ safe.leaves };
+          ends = r.runs.ends;
+        };
+        told = r.told;
+        no_lines = r.no_lines;
+        no_syncs = r.no_syncs;
+      }
+
+  before_by : (refusal : Refusal) → RefusedBefore tells (leaves nothing_new) refusal sink sink' medium medium' order syncs refused status
+      → RefusedBefore tells (leaves' nothing_new) refusal sink sink' medium medium' order syncs refused status
+  before_by refusal b = record { status_is = b.status_is; refused_is = b.refused_is; leaves = by nothing_new b.leaves; no_text = b.no_text; before = b.before }
+
+  bytes_by : (path : List (List ℕ)) (bytes : List ℕ) → BytesEnd tells path bytes (leaves nothing_new) (λ run. leaves (prefixes_of run)) sink sink' medium medium' order syncs refused status
+      → BytesEnd tells path bytes (leaves' nothing_new) (λ run. leaves' (prefixes_of run)) sink sink' medium medium' order syncs refused status
+  bytes_by path bytes (at_root root before) = at_root root (before_by Eisdir before)
+  bytes_by path bytes (no_memory six none kept before) = no_memory six none (by nothing_new kept) before
+  bytes_by path bytes (not_opened text why none kept before) = not_opened text why none (by nothing_new kept) before
+  bytes_by path bytes (put_ran r) = put_ran (put_ran_by path bytes r)
+
+  put_by : (path : List (List ℕ)) → PutEnds tells path (leaves nothing_new) (λ run. leaves (prefixes_of run)) source source' sink sink' medium medium' order syncs refused status
+      → PutEnds tells path (leaves' nothing_new) (λ run. leaves' (prefixes_of run)) source source' sink sink' medium medium' order syncs refused status
+  put_by path (put_source_fault three rose none kept before) = put_source_fault three rose none (by nothing_new kept) before
+  put_by path (no_memory_to_read six none kept before) = no_memory_to_read six none (by nothing_new kept) before
+  put_by path (too_long read long begins before) = too_long read long begins (before_by Efbig before)
+  put_by path (all_read bytes whole ends) = all_read bytes whole (bytes_by path bytes ends)
+
   pub ends_by : (words : List (List ℕ)) → CallEnds tells words leaves source source' sink sink' medium medium' order syncs refused status → CallEnds tells words leaves' source source' sink sink' medium medium' order syncs refused status
   ends_by words (faulty_words none two same kept before) = faulty_words none two same (by nothing_new kept) before
   ends_by words (runs is ends) = runs is (script_by ends)
@@ -69,6 +114,7 @@ module _ {tells : Type 0} {leaves leaves' : Leaving → Type 0} (by : (l : Leavi
   ends_by words (maps is same kept ends) = maps is same (by nothing_new kept) ends
   ends_by words (maps_as_picture is same kept ends) = maps_as_picture is same (by nothing_new kept) ends
   ends_by words (gets path is at same kept ends) = gets path is at same (by nothing_new kept) ends
+  ends_by words (puts path is at ends) = puts path is at (put_by path ends)
   ends_by words (soaks seed count workers lines is same drawn ends) = soaks seed count workers lines is same drawn (ran_by lines (Summarises tells) ends)
 
 -- of the command alone that forms the medium
@@ -86,6 +132,7 @@ module _ {tells : Type 0} {leaves leaves' : Leaving → Type 0} (by : leaves new
   forming_by (maps is same kept ends) = absurd (not_forming is_format is refl)
   forming_by (maps_as_picture is same kept ends) = absurd (not_forming is_format is refl)
   forming_by (gets path is at same kept ends) = absurd (not_forming is_format is refl)
+  forming_by (puts path is at ends) = absurd (not_forming is_format is refl)
   forming_by (soaks seed count workers lines is same drawn ends) = absurd (not_forming is_format is refl)
 
 -- ---- faulty words
@@ -110,6 +157,7 @@ module _ {tells : Type 0} {words : List (List ℕ)} {leaves : Leaving → Type 0
   told_faulty (maps is same kept ends) = absurd (not_both none is)
   told_faulty (maps_as_picture is same kept ends) = absurd (not_both none is)
   told_faulty (gets path is at same kept ends) = absurd (not_both none is)
+  told_faulty (puts path is at ends) = absurd (not_both none is)
   told_faulty (soaks seed count workers lines is same drawn ends) = absurd (not_both none is)
 
 -- nothing was done before a line, and the medium is one that stays

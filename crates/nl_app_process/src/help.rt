@@ -16,6 +16,8 @@ Usage:
   nameless IMAGE map             prints what is found on each page
   nameless IMAGE map svg         prints that as a picture, which a browser shows
   nameless IMAGE get PATH        prints the bytes of a file
+  nameless IMAGE put PATH        makes a file hold the bytes of standard input, whatever it held, and prints
+                                 how many they are
   nameless IMAGE check           prints what is at fault
   nameless IMAGE soak SEED N W   runs a drawn script of N lines for each of W workers, and prints a summary
   nameless --help                prints this text
@@ -35,7 +37,8 @@ Status:
   0  all was done
   2  words: the command line is none of these, or a number is not in its range;
      script LINE COLUMN WHY: the script is refused;
-     ENOENT, EISDIR and the like, on standard error: PATH is refused, as a script's `read` would be
+     ENOENT, EISDIR and the like, on standard error: PATH is refused, as a script's `read` would be, or
+     what is to be put there, as a script's `create`, `write` and `rename` would be
   3  source fault: standard input could not be read
   4  standard output could not be written
   5  medium fault: the image file could not be opened, read or written; or an answer is a fault,

@@ -1,3 +1,4 @@
+pub mod Causeless
 pub mod Digits
 pub mod Ending
 pub mod Formed

@@ -4,7 +4,7 @@ use Rattle.nl_field.specs.Numbers.{is_legal}
 use Rattle.nl_script.specs.Spellings.{digits_of}
 use Rattle.nl_cmd_words.specs.Paths.{path_word, spelled_path}
 use Rattle.nl_cmd_words.specs.declared.command.Command.{Command}
-use Rattle.nl_cmd_words.specs.declared.command.Command.TheVariants.{Format, Run, Check, Tree, Report, Map, MapSvg, Get, Soak}
+use Rattle.nl_cmd_words.specs.declared.command.Command.TheVariants.{Format, Run, Check, Tree, Report, Map, MapSvg, Get, Put, Soak}
 
 -- a geometry that a volume can have
 abbrev pub format_of : Option ℕ → Option ℕ → Option Command
@@ -32,7 +32,8 @@ plain_command word =
 
 -- a word and a path
 abbrev pub path_command : List ℕ → Option (List (List ℕ)) → Option Command
-path_command word (Some path) = if bytes_eq word (codes "get") then Some Get else None
+path_command word (Some path) =
+    if bytes_eq word (codes "get") then Some Get else if bytes_eq word (codes "put") then Some Put else None
 path_command word None = None
 
 -- The command that the words name. None where they name none, where their numbers are no spellings or illegal, or where a path is none.
@@ -54,4 +55,5 @@ IsLegalCommand command = ⊤
 -- the words of a command on one path have it
 abbrev pub HasPath : List (List ℕ) → Command → Type 0
 HasPath words Get = IsSome (path_word words)
+HasPath words Put = IsSome (path_word words)
 HasPath words command = ⊤

@@ -1,6 +1,7 @@
 -- Completeness: where nothing fails and memory is enough, a command is carried out.
-use Rattle.std.specs.Prelude.{◌≡◌, ◌⊎◌, ℕ, List}
-use Rattle.nl_field.specs.CrashStates.{Rose}
+use Rattle.std.specs.Prelude.{◌≡◌, ◌⊎◌, ℕ, ◌+◌, ◌-◌, ◌<◌, ◌^◌, List}
+use Rattle.nl_field.specs.CrashStates.{Rose, top}
+use Rattle.nl_field.specs.Scan.{next_stamp_of}
 use Rattle.nl_spec_headline.specs.Status.{DoneStatus}
 use Rattle.nl_spec_headline.specs.Streams.{Medium, MediumRose, Stream}
 use Rattle.nl_spec_headline.specs.declared.lists.Ordered.{Ordered}
@@ -20,6 +21,12 @@ pub record StartsConsistent (tells : Type 0) (medium : Medium) (count : ℕ) : T
   pub told : tells
   pub tree : Tree
   pub sound : ConsistentAs medium.contents count tree
+
+-- The clock, the write sequence numbers and the sum of both counts of faults do not come to their ends.
+pub record CountsLast (medium medium' : Medium) : Type 0 where
+  pub clock : medium'.counts.clock < 2 ^ 63
+  pub stamps : next_stamp_of medium.contents + (medium'.counts.clock - medium.counts.clock) < 2 ^ 62
+  pub faults : medium'.counts.read_faults + medium'.counts.write_faults < top
 
 -- The command was carried out, unless memory was wanting.
 abbrev pub IsCarriedOut : ℕ → Type 0

@@ -3,7 +3,7 @@ use Rattle.std.specs.Prelude.{◌≡◌, ◌≤◌, ⊤, ℕ, ◌+◌, List, [],
 use Rattle.nl_field.specs.CrashStates.{Rose}
 use Rattle.nl_spec_headline.specs.Headline.{ReadsScript}
 use Rattle.nl_spec_headline.specs.Streams.{Stream}
-use Rattle.nl_script.specs.Script.{max_script, script}
+use Rattle.nl_script.specs.Script.{script}
 use Rattle.nl_script.specs.declared.refusal.ScriptRefusal.TheVariants as refusal
 use Rattle.nl_cmd_words.specs.Ends.{RefusesScript}
 use Rattle.nl_cmd_words.specs.declared.input.Input.{Input}
@@ -11,13 +11,13 @@ use Rattle.nl_cmd_words.specs.declared.input.Input.TheVariants as input
 use Rattle.nl_cmd_words.specs.declared.script.Script.{Script}
 use Rattle.nl_cmd_words.specs.declared.script.Script.TheVariants as given
 
--- What was left begins with the bytes that were read: all of it, or one byte more than a script may have.
-abbrev pub ReadsAll : Option (List ℕ) → Option (List ℕ) → Input → Type 0
-ReadsAll old new (input.All bytes) =
-    (length bytes ≤ max_script) × (old ≡ option_map (λ rest. bytes ++ rest) new) × IfSome new (λ rest. rest ≡ [])
-ReadsAll old new input.TooLong = (read : List ℕ) × (length read ≡ max_script + 1) × (old ≡ option_map (λ rest. read ++ rest) new)
-ReadsAll old new input.Failed = ⊤
-ReadsAll old new input.Memory = ⊤
+-- What was left begins with the bytes that were read: all of it, or one byte more than was wanted.
+abbrev pub ReadsAll : ℕ → Option (List ℕ) → Option (List ℕ) → Input → Type 0
+ReadsAll limit old new (input.All bytes) =
+    (length bytes ≤ limit) × (old ≡ option_map (λ rest. bytes ++ rest) new) × IfSome new (λ rest. rest ≡ [])
+ReadsAll limit old new input.TooLong = (read : List ℕ) × (length read ≡ limit + 1) × (old ≡ option_map (λ rest. read ++ rest) new)
+ReadsAll limit old new input.Failed = ⊤
+ReadsAll limit old new input.Memory = ⊤
 
 -- The lines that the source had left, or why they are refused; a read failed; or memory was wanting.
 abbrev pub GivesScript : Stream → Stream → Script → Type 0

@@ -28,6 +28,8 @@ pub enum Command {
     MapSvg,
     /// Prints the bytes of the file at the path behind it.
     Get,
+    /// Makes the file at the path behind it hold the bytes of a source.
+    Put,
     /// Runs the script that is drawn from a seed, of so many lines for each of so many workers, and prints a summary.
     Soak(u64, u32, u8),
 }
@@ -88,8 +90,12 @@ fn plain_command(word: &[u8]) -> Option<Command>
 fn path_command(word: &[u8], path: &[u8]) -> Option<Command>
     ensures { result ≡ path_command word.now (spelled_path path.now) }
 {
-    if is_path(path) && word == b"get".as_slice() {
+    if !is_path(path) {
+        None
+    } else if word == b"get".as_slice() {
         Some(Command::Get)
+    } else if word == b"put".as_slice() {
+        Some(Command::Put)
     } else {
         None
     }

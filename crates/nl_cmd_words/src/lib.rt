@@ -16,6 +16,7 @@ mod word;
 pub use checking::check;
 pub use command::{Command, command_of};
 pub use forming::format;
+pub use input::{Input, read_all};
 pub use paths::path_word;
 pub use script::{Script, drawn_lines, read_script};
 pub use status::{

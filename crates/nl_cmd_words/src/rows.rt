@@ -36,6 +36,7 @@ pub fn no_commands()
 pub fn path_commands()
     ensures get { command_of (codes "get" ∷ codes "/d/a" ∷ []) ≡ Some command.Get }
     ensures root { command_of (codes "get" ∷ codes "/" ∷ []) ≡ Some command.Get }
+    ensures put { command_of (codes "put" ∷ codes "/d/a" ∷ []) ≡ Some command.Put }
     ensures path { path_word (codes "get" ∷ codes "/d/a" ∷ []) ≡ Some (codes "d" ∷ codes "a" ∷ []) }
     ensures root_path { path_word (codes "get" ∷ codes "/" ∷ []) ≡ Some [] }
 {}
@@ -44,6 +45,8 @@ pub fn path_commands()
 #[tactic(auto, unfolding(nl_script::specs::Spellings::path_of, nl_field::specs::Names::is_name))]
 pub fn no_path_commands()
     ensures alone { command_of (codes "get" ∷ []) ≡ None }
+    ensures put_alone { command_of (codes "put" ∷ []) ≡ None }
+    ensures put_no_path { command_of (codes "put" ∷ codes "a" ∷ []) ≡ None }
     ensures other { command_of (codes "got" ∷ codes "/a" ∷ []) ≡ None }
     ensures no_slash { command_of (codes "get" ∷ codes "a" ∷ []) ≡ None }
     ensures empty { command_of (codes "get" ∷ [] ∷ []) ≡ None }

@@ -13,6 +13,9 @@ use nl_script::{ScriptRefusal, Why, script_of};
 use nl_tree::Lines;
 use std::alloc::Global;
 
+/// The most bytes of a script.
+const MAX_SCRIPT: usize = 16_777_216;
+
 /// What a source has left, as a script.
 #[derive(Debug, Drop)]
 pub enum Script {
@@ -28,7 +31,7 @@ pub fn read_script<S: Source>(alloc: Global, src: &mut S) -> Script
     ensures script { GivesScript (source_seen S.Source src.old) (source_seen S.Source src.new) result }
     ensures never_falls { S.faults src.old ≤ S.faults src.new }
 {
-    match read_all(alloc, src) {
+    match read_all(alloc, src, MAX_SCRIPT) {
         Input::All(bytes) => lines_of(alloc, bytes.bytes()),
         Input::TooLong => Script::Refused {
             line: 0,

@@ -54,8 +54,8 @@ fn repeat(
 impl History {
     /// No calls, on a new volume.
     pub(crate) fn new(alloc: Global, geometry: Geometry) -> Result<History, Wrong> {
-        let plain = fresh(alloc, geometry)?;
         let out = ReplyBuf::new(alloc)?;
+        let plain = fresh(alloc, geometry)?;
         Ok(History {
             alloc,
             geometry,
@@ -101,16 +101,33 @@ impl History {
         Ok(())
     }
 
+    // Makes all calls once more that may have changed a tree.
+    fn repeat_all(&self, plain: &mut Plain, out: &mut ReplyBuf) -> Result<(), Memory> {
+        for made in self.made.iter() {
+            if made.changes {
+                repeat(&self.scripts, *made, plain, out)?;
+            }
+        }
+        Ok(())
+    }
+
+    fn replay(&self, plain: &mut Plain) -> Result<(), Memory> {
+        let mut out = ReplyBuf::new(self.alloc)?;
+        let done = self.repeat_all(plain, &mut out);
+        drop(out);
+        done
+    }
+
     // The plain tree after all calls, made anew.
     fn replayed(&self) -> Result<Plain, Wrong> {
         let mut plain = fresh(self.alloc, self.geometry)?;
-        let mut out = ReplyBuf::new(self.alloc)?;
-        for made in self.made.iter() {
-            if made.changes {
-                repeat(&self.scripts, *made, &mut plain, &mut out)?;
+        match self.replay(&mut plain) {
+            Ok(()) => Ok(plain),
+            Err(_) => {
+                drop(plain);
+                Err(Wrong::Memory)
             }
         }
-        Ok(plain)
     }
 
     /// Forgets all calls behind the first so many.

@@ -4,11 +4,34 @@ use crate::history::History;
 use crate::order::{
     Row, is_changing, is_since, is_within, leaves_out, position_of, rows_of, waits,
 };
-use crate::stand::{Faults, Told};
 use crate::wrong::Wrong;
 use nl_field::Memory;
+use nl_nand::{MemNand, Nand};
+use nl_testkit_program::program::Told;
 use nl_tree::{Call, Lines};
 use std::alloc::Global;
+
+/// The calls of a medium that failed: reads, and formings, programs and erases.
+#[derive(Clone, Copy)]
+pub(crate) struct Faults {
+    pub(crate) reads: u64,
+    pub(crate) writes: u64,
+}
+
+impl Faults {
+    /// The calls of the medium that failed since it was made or restarted.
+    pub(crate) fn of(media: &MemNand) -> Faults {
+        Faults {
+            reads: media.read_faults(),
+            writes: media.write_faults(),
+        }
+    }
+
+    /// How many calls failed.
+    pub(crate) fn sum(self) -> u64 {
+        self.reads.saturating_add(self.writes)
+    }
+}
 
 /// How a run ended that was judged right: how many calls a stop cannot lose, and whether a call of the medium failed.
 #[derive(Clone, Copy)]
@@ -155,11 +178,15 @@ fn is_due(
     }
     let reply = history.reply(&lines.get(at).call)?;
     let due = answer_text(history.alloc, reply, history.bytes())?;
-    if due.as_str() == answer {
-        return Ok(true);
-    }
-    note_answer(history, place, answer, due.as_str())?;
-    Ok(false)
+    let is = due.as_str() == answer;
+    let noted = if is {
+        Ok(())
+    } else {
+        note_answer(history, place, answer, due.as_str())
+    };
+    drop(due);
+    noted?;
+    Ok(is)
 }
 
 // Gives the line at a position its place, where it may be answered now.
@@ -255,7 +282,9 @@ fn judge_line(
     };
     let place = history.count().saturating_add(1);
     let front = format!(in history.alloc; "{number} @{place} ")?;
-    let Some(answer) = printed.strip_prefix(front.as_str()) else {
+    let answer = printed.strip_prefix(front.as_str());
+    drop(front);
+    let Some(answer) = answer else {
         return Err(Wrong::Differs("the place of a line"));
     };
     let Some(at) = position_of(lines, number) else {
@@ -288,6 +317,22 @@ fn judge_lines(
     }
 }
 
+// Judges the printed lines of a run, and tells how many calls a stop cannot lose behind it.
+fn judge_body(
+    history: &mut History,
+    lines: &Lines,
+    body: &str,
+    before: Faults,
+    after: Faults,
+) -> Result<u64, Wrong> {
+    let mut course = Course::new(history.alloc, lines, history.count(), before, after)?;
+    let judged = judge_lines(history, lines, &mut course, body);
+    let durable = course.durable;
+    drop(course);
+    judged?;
+    Ok(durable)
+}
+
 /// Judges what a run of these lines told, where so many calls of the medium had failed before it and behind it, and adds its calls to the
 /// history. The status is 5 exactly where more have failed behind it. A run whose opening failed tells no line.
 pub(crate) fn judge(
@@ -313,13 +358,13 @@ pub(crate) fn judge(
         return Err(Wrong::Differs("the bytes of a text"));
     };
     let front = format!(in history.alloc; "opened {opened}\n")?;
-    let Some(body) = text.strip_prefix(front.as_str()) else {
-        return Err(Wrong::Differs("the count of an opening"));
-    };
-    let mut course = Course::new(history.alloc, lines, opened, before, after)?;
-    judge_lines(history, lines, &mut course, body)?;
-    Ok(Ended {
-        durable: course.durable,
-        rose,
-    })
+    let body = text.strip_prefix(front.as_str());
+    drop(front);
+    match body {
+        Some(body) => Ok(Ended {
+            durable: judge_body(history, lines, body, before, after)?,
+            rose,
+        }),
+        None => Err(Wrong::Differs("the count of an opening")),
+    }
 }

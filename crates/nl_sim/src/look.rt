@@ -98,8 +98,20 @@ fn put_children(
     drop(call);
     let names = String::from_utf8_lossy(alloc, history.bytes())?;
     let front = if path == "/" { "" } else { path };
+    let put = put_names(alloc, front, names.as_str(), pending);
+    drop(names);
+    put
+}
+
+// The same for the names of a directory of that path, with a space between each two.
+fn put_names(
+    alloc: Global,
+    front: &str,
+    names: &str,
+    pending: &mut Vec<String>,
+) -> Result<(), Memory> {
     let base = pending.len();
-    for name in names.as_str().split(' ') {
+    for name in names.split(' ') {
         let name = name.strip_suffix('/').unwrap_or(name);
         if !name.is_empty() {
             let child = format!(in alloc; "{front}/{name}")?;
@@ -142,17 +154,41 @@ fn root(alloc: Global) -> Result<Vec<String>, Memory> {
     Ok(pending)
 }
 
-/// What a look at the plain tree finds: a directory before what is under it, and names in their order.
-pub(crate) fn look_at_all(history: &mut History, dice: &mut Dice) -> Result<Look, Wrong> {
-    let mut look = Look::new(history.alloc, history.count())?;
-    let mut pending = root(history.alloc)?;
+// Looks at the paths that are pending, and at all under them.
+fn look_at_pending(
+    history: &mut History,
+    dice: &mut Dice,
+    look: &mut Look,
+    pending: &mut Vec<String>,
+) -> Result<(), Wrong> {
     for _ in 0..MOST_PATHS {
         let Some(path) = pending.pop() else {
-            return Ok(look);
+            return Ok(());
         };
-        if !look_at(history, dice, &mut look, path.as_str(), &mut pending)? {
+        let there = look_at(history, dice, look, path.as_str(), pending);
+        drop(path);
+        if !there? {
             return Err(Wrong::Differs("a path that the plain tree lists"));
         }
     }
     Err(Wrong::Differs("more paths than nodes"))
+}
+
+fn look_from_root(history: &mut History, dice: &mut Dice, look: &mut Look) -> Result<(), Wrong> {
+    let mut pending = root(history.alloc)?;
+    let looked = look_at_pending(history, dice, look, &mut pending);
+    drop(pending);
+    looked
+}
+
+/// What a look at the plain tree finds: a directory before what is under it, and names in their order.
+pub(crate) fn look_at_all(history: &mut History, dice: &mut Dice) -> Result<Look, Wrong> {
+    let mut look = Look::new(history.alloc, history.count())?;
+    match look_from_root(history, dice, &mut look) {
+        Ok(()) => Ok(look),
+        Err(wrong) => {
+            drop(look);
+            Err(wrong)
+        }
+    }
 }

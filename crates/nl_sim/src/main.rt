@@ -11,7 +11,6 @@ mod kind;
 mod look;
 mod order;
 mod plan;
-mod stand;
 mod trial;
 mod wrong;
 
@@ -35,6 +34,13 @@ struct Sum {
     differ: u64,
 }
 
+fn number_of(word: Option<String>) -> Option<u64> {
+    let word = word?;
+    let number = word.as_str().parse::<u64>().ok();
+    drop(word);
+    number
+}
+
 // The two numbers of the command line, the first seed and the count of trials.
 fn asked<Rt: Env + AllocGlobal>(rt: &Rt) -> Result<Option<(u64, u64)>, Memory> {
     let mut args = match env::args(rt) {
@@ -42,14 +48,11 @@ fn asked<Rt: Env + AllocGlobal>(rt: &Rt) -> Result<Option<(u64, u64)>, Memory> {
         Err(error) if error.kind() == io::ErrorKind::OutOfMemory => return Err(Memory),
         Err(_) => return Ok(None),
     };
-    let (Some(first), Some(second), None) = (args.next(), args.next(), args.next()) else {
-        return Ok(None);
-    };
-    match (
-        first.as_str().parse::<u64>(),
-        second.as_str().parse::<u64>(),
-    ) {
-        (Ok(seed), Ok(count)) => Ok(Some((seed, count))),
+    let seed = number_of(args.next());
+    let count = number_of(args.next());
+    let more = args.next().is_some();
+    match (seed, count, more) {
+        (Some(seed), Some(count), false) => Ok(Some((seed, count))),
         _ => Ok(None),
     }
 }

@@ -2,15 +2,15 @@
 use crate::dice::Dice;
 use crate::drawer::Drawer;
 use crate::history::History;
-use crate::judge::{Ended, judge};
-use crate::look::look_at_all;
+use crate::judge::{Ended, Faults, judge};
+use crate::look::{Look, look_at_all};
 use crate::order::may_be_left;
 use crate::plan::{NO_FAILURE, Plan, behind_making, drawn_plan, drawn_stop, fail_list};
-use crate::stand::Stand;
 use crate::wrong::Wrong;
 use nl_field::{Memory, shape_of};
 use nl_nand::{Cut, Geometry, MemNand, Stop};
 use nl_script::{ScriptRefusal, script_of};
+use nl_testkit_program::program::Rig;
 use nl_tree::Lines;
 use std::alloc::Global;
 use std::fmt::Write;
@@ -45,10 +45,7 @@ fn lines_of(alloc: Global, script: &str) -> Result<Lines, Wrong> {
 }
 
 // Makes the volume.
-fn make<Rt: Threads + Wait + Sync>(
-    stand: &mut Stand<'_, Rt>,
-    geometry: Geometry,
-) -> Result<(), Wrong> {
+fn make<Rt: Threads + Wait + Sync>(rig: &mut Rig<'_, Rt>, geometry: Geometry) -> Result<(), Wrong> {
     let blocks = geometry.blocks;
     let pages = geometry.pages;
     let Some(shape) = shape_of(blocks, pages) else {
@@ -57,11 +54,11 @@ fn make<Rt: Threads + Wait + Sync>(
     let cap = shape.cap;
     let nodes = shape.nodes;
     let meta = shape.meta;
-    let words = format!(in stand.alloc; "format {blocks} {pages}")?;
-    let text = format!(in stand.alloc;
+    let words = format!(in rig.alloc; "format {blocks} {pages}")?;
+    let text = format!(in rig.alloc;
         "formatted blocks {blocks} pages {pages} data {cap} nodes {nodes} meta {meta}\n"
     )?;
-    let told = stand.tell(words.as_str(), "")?;
+    let told = rig.tell(words.as_str(), "")?;
     if told.is(0, text.as_str()) {
         Ok(())
     } else {
@@ -71,23 +68,34 @@ fn make<Rt: Threads + Wait + Sync>(
 
 // Runs a script on the volume, and judges what it tells.
 fn run<Rt: Threads + Wait + Sync>(
-    stand: &mut Stand<'_, Rt>,
+    rig: &mut Rig<'_, Rt>,
     history: &mut History,
     script: &str,
 ) -> Result<Ended, Wrong> {
-    let lines = lines_of(stand.alloc, script)?;
-    let before = stand.faults();
-    let told = stand.tell("run", script)?;
-    let after = stand.faults();
-    let judged = judge(history, &lines, &told, before, after);
-    drop(told);
+    let lines = lines_of(rig.alloc, script)?;
+    let judged = run_lines(rig, history, script, &lines);
     history.keep(lines)?;
     judged
 }
 
+// The same for the lines of the script.
+fn run_lines<Rt: Threads + Wait + Sync>(
+    rig: &mut Rig<'_, Rt>,
+    history: &mut History,
+    script: &str,
+    lines: &Lines,
+) -> Result<Ended, Wrong> {
+    let before = Faults::of(&rig.media);
+    let told = rig.tell("run", script)?;
+    let after = Faults::of(&rig.media);
+    let judged = judge(history, lines, &told, before, after);
+    drop(told);
+    judged
+}
+
 // The count of calls with which a check tells the volume sound, and None where it does not.
-fn counted<Rt: Threads + Wait + Sync>(stand: &mut Stand<'_, Rt>) -> Result<Option<u64>, Memory> {
-    let told = stand.tell("check", "")?;
+fn counted<Rt: Threads + Wait + Sync>(rig: &mut Rig<'_, Rt>) -> Result<Option<u64>, Memory> {
+    let told = rig.tell("check", "")?;
     let count = if told.status == 0 {
         sound_count(told.text())
     } else {
@@ -116,13 +124,13 @@ fn note_left(history: &mut History, ended: Ended, count: u64) -> Result<(), Memo
 // Restarts the medium, and finds with how many calls the volume opens: with a prefix that has each durable one, and with all where no call
 // of the medium failed. The history is cut to them.
 fn reopen<Rt: Threads + Wait + Sync>(
-    stand: &mut Stand<'_, Rt>,
+    rig: &mut Rig<'_, Rt>,
     history: &mut History,
     ended: Ended,
     tally: &mut Tally,
 ) -> Result<(), Wrong> {
-    stand.restart(None);
-    let Some(count) = counted(stand)? else {
+    rig.restart(None);
+    let Some(count) = counted(rig)? else {
         return Err(Wrong::Differs("a medium that is not sound"));
     };
     let least = if ended.rose {
@@ -139,11 +147,8 @@ fn reopen<Rt: Threads + Wait + Sync>(
 }
 
 // Whether the text of all paths is that of the plain tree.
-fn is_tree<Rt: Threads + Wait + Sync>(
-    stand: &mut Stand<'_, Rt>,
-    tree: &str,
-) -> Result<bool, Memory> {
-    let told = stand.tell("tree", "")?;
+fn is_tree<Rt: Threads + Wait + Sync>(rig: &mut Rig<'_, Rt>, tree: &str) -> Result<bool, Memory> {
+    let told = rig.tell("tree", "")?;
     let is = told.is(0, tree);
     drop(told);
     Ok(is)
@@ -151,16 +156,27 @@ fn is_tree<Rt: Threads + Wait + Sync>(
 
 // Compares all paths of the volume, and the bytes of its files, with the plain tree.
 fn look<Rt: Threads + Wait + Sync>(
-    stand: &mut Stand<'_, Rt>,
+    rig: &mut Rig<'_, Rt>,
     history: &mut History,
     dice: &mut Dice,
 ) -> Result<(), Wrong> {
     let all = look_at_all(history, dice)?;
-    if !is_tree(stand, all.tree.as_str())? {
+    let seen = is_seen(rig, history, &all);
+    drop(all);
+    seen
+}
+
+// Compares what is left with what a look at the plain tree has found.
+fn is_seen<Rt: Threads + Wait + Sync>(
+    rig: &mut Rig<'_, Rt>,
+    history: &mut History,
+    all: &Look,
+) -> Result<(), Wrong> {
+    if !is_tree(rig, all.tree.as_str())? {
         history.note(all.tree.as_str())?;
         return Err(Wrong::Differs("the paths that are left"));
     }
-    let ended = run(stand, history, all.script.as_str())?;
+    let ended = run(rig, history, all.script.as_str())?;
     if ended.rose {
         return Err(Wrong::Differs("a medium that fails by itself"));
     }
@@ -169,37 +185,38 @@ fn look<Rt: Threads + Wait + Sync>(
 
 // Runs one script, whose medium is ready, and looks at what it leaves.
 fn run_one<Rt: Threads + Wait + Sync>(
-    stand: &mut Stand<'_, Rt>,
+    rig: &mut Rig<'_, Rt>,
     history: &mut History,
     drawer: &mut Drawer,
     plan: &Plan,
     tally: &mut Tally,
 ) -> Result<(), Wrong> {
     let script = drawer.script(plan)?;
-    let ended = run(stand, history, script.as_str())?;
-    reopen(stand, history, ended, tally)?;
-    look(stand, history, &mut drawer.dice)
+    let ended = run(rig, history, script.as_str());
+    drop(script);
+    reopen(rig, history, ended?, tally)?;
+    look(rig, history, &mut drawer.dice)
 }
 
 // Runs all scripts. The first is that of a new medium.
 fn run_all<Rt: Threads + Wait + Sync>(
-    stand: &mut Stand<'_, Rt>,
+    rig: &mut Rig<'_, Rt>,
     history: &mut History,
     drawer: &mut Drawer,
     plan: &mut Plan,
     tally: &mut Tally,
 ) -> Result<(), Wrong> {
-    make(stand, plan.geometry)?;
-    run_one(stand, history, drawer, plan, tally)?;
+    make(rig, plan.geometry)?;
+    run_one(rig, history, drawer, plan, tally)?;
     for script in 1..plan.scripts {
         plan.script = script.saturating_add(1);
         plan.stop = drawn_stop(&mut drawer.dice);
         plan.failing = NO_FAILURE;
-        stand.restart(plan.stop);
-        run_one(stand, history, drawer, plan, tally)?;
+        rig.restart(plan.stop);
+        run_one(rig, history, drawer, plan, tally)?;
     }
-    stand.restart(None);
-    if counted(stand)? == Some(history.count()) {
+    rig.restart(None);
+    if counted(rig)? == Some(history.count()) {
         Ok(())
     } else {
         Err(Wrong::Differs("the calls behind the last look"))
@@ -226,6 +243,21 @@ fn push_failing(text: &mut String, name: &str, numbers: [u64; 2]) -> Result<(), 
     write!(text, ", {name} {first} and {second} fail")
 }
 
+fn push_plan(text: &mut String, seed: u64, plan: &Plan) -> Result<(), Memory> {
+    let blocks = plan.geometry.blocks;
+    let pages = plan.geometry.pages;
+    let workers = plan.workers;
+    let script = plan.script;
+    let mix = plan.mix.name();
+    write!(
+        text,
+        "seed {seed}: {blocks} by {pages}, {mix}, {workers} workers, script {script}"
+    )?;
+    push_stop(text, plan.stop)?;
+    push_failing(text, "reads", plan.failing.reads)?;
+    push_failing(text, "writes", plan.failing.writes)
+}
+
 // The line that is printed of a trial in which something differs.
 fn report(
     alloc: Global,
@@ -234,20 +266,47 @@ fn report(
     what: &str,
     history: &History,
 ) -> Result<String, Memory> {
-    let blocks = plan.geometry.blocks;
-    let pages = plan.geometry.pages;
-    let workers = plan.workers;
-    let script = plan.script;
-    let mix = plan.mix.name();
     let note = history.noted();
-    let mut text = format!(in alloc;
-        "seed {seed}: {blocks} by {pages}, {mix}, {workers} workers, script {script}"
-    )?;
-    push_stop(&mut text, plan.stop)?;
-    push_failing(&mut text, "reads", plan.failing.reads)?;
-    push_failing(&mut text, "writes", plan.failing.writes)?;
+    let mut text = String::new(alloc);
+    push_plan(&mut text, seed, plan)?;
     write!(text, ": {what} ({note})")?;
     Ok(text)
+}
+
+// A medium that was never formed, with the failing calls and the first stop of a plan.
+fn planned_medium(alloc: Global, plan: &Plan) -> Result<MemNand, Memory> {
+    let reads = fail_list(alloc, plan.failing.reads)?;
+    let writes = fail_list(alloc, plan.failing.writes)?;
+    Ok(MemNand::new(alloc, reads, writes, behind_making(plan.stop)))
+}
+
+// Runs all scripts of a plan on a new medium.
+fn run_plan<Rt: Threads + Wait + Sync>(
+    rt: &Rt,
+    history: &mut History,
+    drawer: &mut Drawer,
+    plan: &mut Plan,
+    tally: &mut Tally,
+) -> Result<(), Wrong> {
+    let media = planned_medium(history.alloc, plan)?;
+    let mut rig = Rig::on(rt, history.alloc, media);
+    let right = run_all(&mut rig, history, drawer, plan, tally);
+    drop(rig);
+    right
+}
+
+// What differs in a trial that ended so, as a line.
+fn line_of(
+    history: &History,
+    seed: u64,
+    plan: &Plan,
+    right: Result<(), Wrong>,
+) -> Result<Option<String>, Memory> {
+    match right {
+        Ok(()) => Ok(None),
+        Err(Wrong::Memory) => Err(Memory),
+        Err(Wrong::Differs(what)) => Ok(Some(report(history.alloc, seed, plan, what, history)?)),
+    }
 }
 
 // What differs in the trial of a plan, and None where nothing does.
@@ -255,26 +314,17 @@ fn tried<Rt: Threads + Wait + Sync>(
     rt: &Rt,
     alloc: Global,
     seed: u64,
-    dice: Dice,
+    drawer: &mut Drawer,
     plan: &mut Plan,
     tally: &mut Tally,
 ) -> Result<Option<String>, Memory> {
-    let mut drawer = Drawer::new(alloc, dice)?;
-    let mut history = match History::new(alloc, plan.geometry) {
-        Ok(history) => history,
-        Err(_) => return Err(Memory),
+    let Ok(mut history) = History::new(alloc, plan.geometry) else {
+        return Err(Memory);
     };
-    let reads = fail_list(alloc, plan.failing.reads)?;
-    let writes = fail_list(alloc, plan.failing.writes)?;
-    let media = MemNand::new(alloc, reads, writes, behind_making(plan.stop));
-    let mut stand = Stand::on(rt, alloc, media);
-    let right = run_all(&mut stand, &mut history, &mut drawer, plan, tally);
-    drop(stand);
-    match right {
-        Ok(()) => Ok(None),
-        Err(Wrong::Memory) => Err(Memory),
-        Err(Wrong::Differs(what)) => Ok(Some(report(alloc, seed, plan, what, &history)?)),
-    }
+    let right = run_plan(rt, &mut history, drawer, plan, tally);
+    let line = line_of(&history, seed, plan, right);
+    drop(history);
+    line
 }
 
 /// What differs in the trial of a seed, as a line, and None where nothing does.
@@ -286,5 +336,8 @@ pub(crate) fn difference<Rt: Threads + Wait + Sync>(
 ) -> Result<Option<String>, Memory> {
     let mut dice = Dice::new(seed);
     let mut plan = drawn_plan(&mut dice);
-    tried(rt, alloc, seed, dice, &mut plan, tally)
+    let mut drawer = Drawer::new(alloc, dice)?;
+    let line = tried(rt, alloc, seed, &mut drawer, &mut plan, tally);
+    drop(drawer);
+    line
 }

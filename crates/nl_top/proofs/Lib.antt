@@ -1,4 +1,5 @@
 pub mod Failed
 pub mod Left
+pub mod PutAndGet
 pub mod RunCompleting
 pub mod Told

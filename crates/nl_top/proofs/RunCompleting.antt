@@ -1,8 +1,8 @@
 -- Where nothing fails, a run is carried out, and no answer is a fault reply.
-use Rattle.std.proofs.Common.{◌≡◌, ◌⊎◌, ◌+◌, ◌-◌, ◌<◌, ◌≤◌, ◌||◌, ℕ, suc, Bool, true, false, List, [], ◌∷◌, ◌++◌, map, length, refl, sym, ap, ◌∙◌, inl, inr, append-nil, length-append, arith}
+use Rattle.std.proofs.Common.{◌≡◌, ◌⊎◌, ◌+◌, ◌-◌, ◌<◌, ◌||◌, ℕ, suc, Bool, true, false, List, [], ◌∷◌, ◌++◌, map, length, refl, sym, ap, ◌∙◌, inl, inr, append-nil, length-append, arith}
 use Rattle.std.specs.Prelude.{◌^◌, if◌then◌else◌, Option, None, Some, Ok, Err, IfSome, is_some, option_map, slice_get}
 use Rattle.std.specs.List.{list_any}
-use Rattle.nl_field.specs.CrashStates.{Rose, top}
+use Rattle.nl_field.specs.CrashStates.{Rose}
 use Rattle.nl_field.specs.Scan.{next_stamp_of}
 use Rattle.nl_spec_headline.specs.Course.{Course, RepliedLine}
 use Rattle.nl_spec_headline.specs.Status.{DoneStatus, RunFailed}
@@ -15,42 +15,15 @@ use Rattle.nl_script.specs.declared.refusal.ScriptRefusal.TheVariants.{Refused}
 use Rattle.std.proofs.lemmas.Bool.{lt-ltb}
 use Rattle.nl_script.specs.declared.why.Why.{Why}
 use Rattle.nl_script.specs.declared.why.Why.TheVariants.{Size}
-use Rattle.nl_tree.specs.Causes.{Counts, FaultRose, HasCause, MayBeExhausted, fault_in}
-use Rattle.nl_tree.specs.declared.call.Call.{Call}
+use Rattle.nl_tree.specs.Causes.{Counts, FaultRose, fault_in}
 use Rattle.nl_tree.specs.declared.call.Line.{Line}
 use Rattle.nl_tree.specs.declared.reply.FaultReply.{FaultReply}
-use Rattle.nl_tree.specs.declared.reply.FaultReply.TheVariants.{Eio, Erofs, Eworn, Edamaged}
-use Rattle.nl_cmd_words.specs.Complete.{NothingRose, OpeningCompletes, StartsConsistent}
+use Rattle.nl_cmd_words.specs.Complete.{CountsLast, NothingRose, OpeningCompletes, StartsConsistent}
 use Rattle.nl_cmd_words.specs.Ends.{NotOpened, RefusesScript}
-use Rattle.nl_top.specs.Complete.{CountsLast, NoFaultAnswered, RunCompletes}
+use Rattle.nl_cmd_words.proofs.Causeless.{never_worn, no_cause}
+use Rattle.nl_top.specs.Complete.{NoFaultAnswered, RunCompletes}
 use Rattle.nl_top.specs.Leaving.{Leaving}
 use Rattle.nl_top.specs.RunEnds.{Ran, RunEnds, ScriptEnds, PrintsAnswers, not_run, ran, runs_script, script_refused, source_fault, source_no_memory}
-
--- ---- no fault reply has a cause
-
-not_risen : (before now : ℕ) → (Rose before now → ⊥) → (now ≤ before) × (now < top)
-not_risen before now none = omega (arith, none)
-
-module _ (tells : Type 0) (before now : Counts) (next_stamp : ℕ) (told : tells) (reads : Rose before.read_faults now.read_faults → ⊥) (writes : Rose before.write_faults now.write_faults → ⊥)
-    (clock : now.clock < 2 ^ 63) (stamps : next_stamp + (now.clock - before.clock) < 2 ^ 62) (faults : now.read_faults + now.write_faults < top) where
-  reads_stay : (now.read_faults ≤ before.read_faults) × (now.read_faults < top)
-  reads_stay = not_risen before.read_faults now.read_faults reads
-
-  writes_stay : (now.write_faults ≤ before.write_faults) × (now.write_faults < top)
-  writes_stay = not_risen before.write_faults now.write_faults writes
-
-  never_worn : MayBeExhausted before now next_stamp → ⊥
-  never_worn (inl past) = omega (arith, past, writes_stay.0, stamps)
-  never_worn (inr (inl c)) = omega (arith, c, clock)
-  never_worn (inr (inr f)) = omega (arith, f, writes_stay.1)
-
-  no_cause : (call : Call) (fault : FaultReply) → HasCause tells before now next_stamp call fault → ⊥
-  no_cause call (Eio n) (inl since, most) = omega (arith, since, most, reads_stay.0, writes_stay.0)
-  no_cause call (Eio n) (inr at_top, most) = omega (arith, at_top, most, faults)
-  no_cause call (Erofs n) (changing, inl rose, sum) = omega (arith, rose, writes_stay.0)
-  no_cause call (Erofs n) (changing, inr at_top, sum) = omega (arith, at_top, writes_stay.1)
-  no_cause call Eworn (changing, worn) = never_worn worn
-  no_cause call (Edamaged wanted found) (untold, differ) = untold told
 
 -- ---- no answer is one
 

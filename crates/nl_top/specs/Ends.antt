@@ -5,7 +5,7 @@ use Rattle.nl_cmd_words.specs.Command.{command_of}
 use Rattle.nl_cmd_words.specs.Ends.{CheckEnds, EndsBefore, FormatEnds}
 use Rattle.nl_cmd_words.specs.Paths.{path_word}
 use Rattle.nl_cmd_words.specs.declared.command.Command.{Command}
-use Rattle.nl_cmd_words.specs.declared.command.Command.TheVariants.{Check, Format, Get, Map, MapSvg, Report, Run as RunScript, Soak, Tree as TreeCommand}
+use Rattle.nl_cmd_words.specs.declared.command.Command.TheVariants.{Check, Format, Get, Map, MapSvg, Put, Report, Run as RunScript, Soak, Tree as TreeCommand}
 use Rattle.nl_gen.specs.Soak.{soak_text}
 use Rattle.nl_spec_headline.specs.Streams.{Medium, Stream}
 use Rattle.nl_spec_headline.specs.declared.lists.Ordered.{Ordered}
@@ -15,16 +15,18 @@ use Rattle.nl_tree.specs.declared.call.Line.{Line}
 use Rattle.nl_tree.specs.declared.reply.Refusal.{Refusal}
 use Rattle.nl_cmd_view.specs.Getting.{GetEnds}
 use Rattle.nl_cmd_map.specs.Mapping.{MapEnds}
+use Rattle.nl_cmd_put.specs.Putting.{PutEnds}
 use Rattle.nl_map.specs.Svg.{map_svg}
 use Rattle.nl_map.specs.Text.{map_text}
 use Rattle.nl_cmd_view.specs.Looking.{LookEnds, ReportsImage, TreeEnds}
-use Rattle.nl_top.specs.Leaving.{Leaving, new_volume, nothing_new}
+use Rattle.nl_top.specs.Leaving.{Leaving, new_volume, nothing_new, prefixes_of}
 use Rattle.nl_top.specs.RunEnds.{RunEnds, ScriptEnds}
 use Rattle.nl_top.specs.Soak.{Summarises}
 
 -- Only a command on one path ends with a refusal of the tree.
 abbrev pub MayRefuse : Option Command → Option Refusal → Type 0
 MayRefuse (Some Get) refused = ⊤
+MayRefuse (Some Put) refused = ⊤
 MayRefuse command refused = refused ≡ None
 
 -- Each call ends in one of these ways, by its words.
@@ -54,6 +56,9 @@ pub data CallEnds (tells : Type 0) (words : List (List ℕ)) (leaves : Leaving �
       → CallEnds tells words leaves source source' sink sink' medium medium' order syncs refused status
   gets : (path : List (List ℕ)) → command_of words ≡ Some Get → path_word words ≡ Some path → source' ≡ source → leaves nothing_new
       → GetEnds tells path sink sink' medium medium' order syncs refused status
+      → CallEnds tells words leaves source source' sink sink' medium medium' order syncs refused status
+  puts : (path : List (List ℕ)) → command_of words ≡ Some Put → path_word words ≡ Some path
+      → PutEnds tells path (leaves nothing_new) (λ run. leaves (prefixes_of run)) source source' sink sink' medium medium' order syncs refused status
       → CallEnds tells words leaves source source' sink sink' medium medium' order syncs refused status
   soaks : (seed count workers : ℕ) (lines : List Line) → command_of words ≡ Some (Soak seed count workers) → source' ≡ source
       → script (soak_text seed count workers) ≡ Ok lines

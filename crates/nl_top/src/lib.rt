@@ -1,6 +1,7 @@
 //! The top call of a flash store: it answers the words of a command line on a flash medium.
 #![tactic(auto)]
 
+pub mod laws;
 mod on_path;
 mod running;
 mod soaking;

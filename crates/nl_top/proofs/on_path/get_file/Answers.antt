@@ -1,10 +1,9 @@
 use Rattle.std.proofs.Common.{◌≡◌, ℕ, List, Option, None, Some, ap, codes, refl, subst, sym}
-use Rattle.std.specs.Prelude.{IfSome, IsSome}
-use Rattle.nl_cmd_view.specs.Getting.{GetEnds, not_cut}
+use Rattle.std.specs.Prelude.{IfSome}
+use Rattle.nl_cmd_view.specs.Getting.{not_cut}
 use Rattle.nl_cmd_view.specs.Looking.{not_seen}
 use Rattle.nl_cmd_words.specs.Ends.{no_memory}
 use Rattle.nl_cmd_words.specs.Paths.{path_word}
-use Rattle.nl_spec_headline.specs.Streams.{medium_seen, sink_seen}
 use Rattle.nl_top.proofs.Left.{same_leaves}
 use Rattle.nl_top.proofs.on_path.get_file.Goals as goal
 

@@ -4,12 +4,12 @@ use Rattle.nl_cmd_view.specs.Getting.{GetEnds}
 use Rattle.nl_cmd_words.specs.Command.{HasPath}
 use Rattle.nl_cmd_words.specs.Paths.{path_word}
 use Rattle.nl_cmd_words.specs.declared.command.Command.{Command}
-use Rattle.nl_cmd_words.specs.declared.command.Command.TheVariants.{Check, Format, Get, Map, MapSvg, Report, Run, Soak, Tree}
+use Rattle.nl_cmd_words.specs.declared.command.Command.TheVariants.{Check, Format, Get, Map, MapSvg, Put, Report, Run, Soak, Tree}
 use Rattle.nl_map.specs.Svg.{map_svg}
 use Rattle.nl_map.specs.Text.{map_text}
 use Rattle.nl_spec_headline.specs.Streams.{medium_seen, sink_seen, source_seen}
 use Rattle.nl_top.specs.Complete.{CarriesOut}
-use Rattle.nl_top.specs.Ends.{MayRefuse, checks, faulty_words, formats, gets, maps, maps_as_picture, reports, runs, shows_tree, soaks}
+use Rattle.nl_top.specs.Ends.{MayRefuse, checks, faulty_words, formats, gets, maps, maps_as_picture, puts, reports, runs, shows_tree, soaks}
 use Rattle.nl_top.specs.Leaving.{leaves_within}
 use Rattle.nl_top.specs.Soak.{Summarises}
 use Rattle.nl_top.proofs.Left.{same_leaves}
@@ -213,3 +213,35 @@ returns-in-Some-Get-clause-completes g c = λ none.
     (subst (λ (o : Option (List (List ℕ))). IfSome o (λ path. GetEnds m.tells path (sink_seen g.K.Sink c.args.sink.now) (sink_seen g.K.Sink c.get_file.new.sink) old new end.order.items end.syncs.items end.refused end.status)) is c.get_file.ensures.ended)
     starts none in
     subst (λ (o : Option Command). CarriesOut o (path_word c.args.words.now) m.tells source old new end.order.items end.status) (sym (sym c.command_of.ensures.command ∙ c.in-Some-Get.is ∙ ap Some c.in-Some-Get.field-0-is)) done
+
+-- ---- put
+
+pub put_file-requires : goal.put_file-requires
+put_file-requires g c = record { path = subst (λ (o : Option Command). IfSome o (HasPath c.args.words.now)) (c.in-Some-Put.is ∙ ap Some c.in-Some-Put.field-0-is) c.command_of.ensures.path }
+
+pub returns-in-Some-Put-clause-ended : goal.returns-in-Some-Put-clause-ended
+returns-in-Some-Put-clause-ended g c =
+    let some = subst (λ (o : Option Command). IfSome o (HasPath c.args.words.now)) (c.in-Some-Put.is ∙ ap Some c.in-Some-Put.field-0-is) c.command_of.ensures.path in
+    let e = of_path (path_word c.args.words.now) _ some c.put_file.ensures.ended in
+    puts e.0 (sym c.command_of.ensures.command ∙ c.in-Some-Put.is ∙ ap Some c.in-Some-Put.field-0-is) e.1 e.2
+
+pub returns-in-Some-Put-clause-refused : goal.returns-in-Some-Put-clause-refused
+returns-in-Some-Put-clause-refused g c =
+    subst (λ (o : Option Command). MayRefuse o c.put_file.result.refused) (sym (sym c.command_of.ensures.command ∙ c.in-Some-Put.is ∙ ap Some c.in-Some-Put.field-0-is)) tt
+
+pub returns-in-Some-Put-clause-completes : goal.returns-in-Some-Put-clause-completes
+returns-in-Some-Put-clause-completes g c = λ none.
+    let m = g.M.Nand in
+    let source = source_seen g.S.Source c.args.src.now in
+    let source' = source_seen g.S.Source c.put_file.new.src in
+    let sink = sink_seen g.K.Sink c.args.sink.now in
+    let sink' = sink_seen g.K.Sink c.put_file.new.sink in
+    let old = medium_seen m c.args.media in
+    let new = medium_seen m c.put_file.result.media in
+    let end = c.put_file.result in
+    let some = subst (λ (o : Option Command). IfSome o (HasPath c.args.words.now)) (c.in-Some-Put.is ∙ ap Some c.in-Some-Put.field-0-is) c.command_of.ensures.path in
+    let e = of_path (path_word c.args.words.now) _ some c.put_file.ensures.ended in
+    let done : CarriesOut (Some Put) (path_word c.args.words.now) m.tells source old new end.order.items end.status = λ count starts last.
+    c.put_completes.ensures c.args.media end.media e.0 source source' sink sink' old new end.order.items end.syncs.items end.refused end.status count
+    e.2 starts none last in
+    subst (λ (o : Option Command). CarriesOut o (path_word c.args.words.now) m.tells source old new end.order.items end.status) (sym (sym c.command_of.ensures.command ∙ c.in-Some-Put.is ∙ ap Some c.in-Some-Put.field-0-is)) done

@@ -1,4 +1,0 @@
-pub mod Asking
-pub mod Naming
-pub mod Phases
-pub mod Putting
