@@ -1,7 +1,7 @@
 // The cleaning of a block, task by task.
 use crate::rig::{Seen, Step};
 use crate::rounds::{BUILT, DEAD};
-use crate::visit::{differing, sound, tree};
+use crate::visit::{assert_none_differs, differing, sound, tree};
 use nl_tree::Duty;
 
 // The block with 14 dead pages has 18 live ones. A callback that was handled stays pending until a commit.
@@ -36,5 +36,5 @@ const TASKS: [(Step, Seen); 24] = [
 fn task_by_task(rt: HostRuntime) {
     let alloc = rt.alloc();
     let found = differing(alloc, &DEAD, sound(alloc, None), tree(&TASKS, 8), Some(8));
-    assert!(rt; found == Ok(None));
+    assert_none_differs(&rt, found);
 }

@@ -3,7 +3,7 @@ use crate::image::image;
 use crate::rig::{Seen, Step};
 use crate::rounds::{BUILT, DEAD};
 use crate::stops::committed_after;
-use crate::visit::{Differs, differing, failing, is_fault, tree};
+use crate::visit::{Differs, assert_none_differs, differing, failing, is_fault, tree};
 use nl_field::Memory;
 use nl_tree::Duty;
 use std::alloc::Global;
@@ -50,7 +50,7 @@ fn writes_differ(alloc: Global) -> Result<Option<(u64, Differs)>, Memory> {
 
 #[test]
 fn each_write_fails(rt: HostRuntime) {
-    assert!(rt; writes_differ(rt.alloc()) == Ok(None));
+    assert_none_differs(&rt, writes_differ(rt.alloc()));
 }
 
 /// An opening reads each page once, and then each of the seven addresses that it has.
@@ -83,7 +83,7 @@ fn reads_differ(alloc: Global) -> Result<Option<(u64, Differs)>, Memory> {
 
 #[test]
 fn each_read_fails(rt: HostRuntime) {
-    assert!(rt; reads_differ(rt.alloc()) == Ok(None));
+    assert_none_differs(&rt, reads_differ(rt.alloc()));
 }
 
 fn opening_fails(alloc: Global, read: u64) -> Result<bool, Memory> {

@@ -215,7 +215,10 @@ fn formed(alloc: Global, plan: Plan) -> Result<MemNand, Memory>
     let mut media = MemNand::new(alloc, reads, writes, stop);
     match media.form(32, 32) {
         FormAnswer::Done => Ok(media),
-        _ => Err(Memory),
+        _ => {
+            drop(media);
+            Err(Memory)
+        }
     }
 }
 
@@ -385,17 +388,31 @@ fn with_contents(alloc: Global, contents: &[Content], plan: Plan) -> Result<MemN
     found
 }
 
+// The same, with a buffer of its own.
+fn put_with_buf(
+    alloc: Global,
+    media: &mut MemNand,
+    contents: &[Content],
+    names: &[u32],
+) -> Result<bool, Memory>
+    requires geometry { geometry_of media.old ≡ record { blocks = 32; pages = 32 } }
+    requires erased { ErasedWithin (contents_of media.old) 0 1024 }
+{
+    let mut buf = PageBuf::new(alloc)?;
+    let done = put_all(media, contents, names, &mut buf);
+    drop(buf);
+    Ok(done)
+}
+
 fn with_names(
     alloc: Global,
     contents: &[Content],
     names: &[u32],
     plan: Plan,
 ) -> Result<MemNand, Memory> {
-    let mut buf = PageBuf::new(alloc)?;
     let mut media = formed(alloc, plan)?;
-    let done = put_all(&mut media, contents, names, &mut buf);
-    drop(buf);
-    if done {
+    let done = put_with_buf(alloc, &mut media, contents, names);
+    if done == Ok(true) {
         Ok(media)
     } else {
         drop(media);

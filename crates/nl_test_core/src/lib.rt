@@ -1,5 +1,6 @@
 //! Tests of a core over a small full volume, which is built byte by byte and read back: rounds of reclaiming, what a stop within each of
-//! their operations leaves, failures of the medium, pages that are programmed where few blocks are Free, and background tasks.
+//! their operations leaves, failures of the medium, pages that are programmed where few blocks are Free, background tasks, and syncs that go
+//! on unit by unit beside each other.
 #![tactic(auto)]
 
 #[cfg(test)]
@@ -18,5 +19,7 @@ mod rig;
 mod rounds;
 #[cfg(test)]
 mod stops;
+#[cfg(test)]
+mod units;
 #[cfg(test)]
 mod visit;

@@ -3,7 +3,7 @@ use crate::failing::OPENED;
 use crate::image::Layout;
 use crate::rig::{Seen, Step};
 use crate::stops::{CUTS, finished};
-use crate::visit::{Differs, Holds, Visit, differing, failing, sound};
+use crate::visit::{Differs, Holds, Visit, assert_none_differs, differing, failing, sound};
 use nl_field::Memory;
 use nl_nand::{Cut, Stop};
 use std::alloc::Global;
@@ -66,7 +66,7 @@ fn room_is_made(rt: HostRuntime) {
     let alloc = rt.alloc();
     let with = with_flight(&PROGRAMS, 7, 128);
     let found = differing(alloc, &CROWDED, sound(alloc, None), with, Some(7));
-    assert!(rt; found == Ok(None));
+    assert_none_differs(&rt, found);
 }
 
 // The page that needs rounds, after a call, where an operation of theirs fails. The volume is read-only from then on.
@@ -135,7 +135,7 @@ fn stops_differ(alloc: Global) -> Result<Option<(u64, usize, Differs)>, Memory> 
 
 #[test]
 fn rounds_that_make_room_are_stopped(rt: HostRuntime) {
-    assert!(rt; stops_differ(rt.alloc()) == Ok(None));
+    assert_none_differs(&rt, stops_differ(rt.alloc()));
 }
 
 fn write_differs(alloc: Global, operation: u64) -> Result<Option<Differs>, Memory> {
@@ -156,7 +156,7 @@ fn writes_differ(alloc: Global) -> Result<Option<(u64, Differs)>, Memory> {
 
 #[test]
 fn writes_of_rounds_that_make_room_fail(rt: HostRuntime) {
-    assert!(rt; writes_differ(rt.alloc()) == Ok(None));
+    assert_none_differs(&rt, writes_differ(rt.alloc()));
 }
 
 fn read_differs(alloc: Global, copy: u64) -> Result<Option<Differs>, Memory> {
@@ -176,5 +176,5 @@ fn reads_differ(alloc: Global) -> Result<Option<(u64, Differs)>, Memory> {
 
 #[test]
 fn reads_of_rounds_that_make_room_fail(rt: HostRuntime) {
-    assert!(rt; reads_differ(rt.alloc()) == Ok(None));
+    assert_none_differs(&rt, reads_differ(rt.alloc()));
 }

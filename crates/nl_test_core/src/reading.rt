@@ -12,7 +12,7 @@ use nl_nand::MemNand;
 use std::alloc::Global;
 
 /// What is not as it should be.
-#[derive(Clone, Copy, PartialEq)]
+#[derive(Clone, Copy)]
 pub enum Wrong {
     /// The bytes of an address.
     Address(u32),

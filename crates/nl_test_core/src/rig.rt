@@ -6,7 +6,7 @@ use crate::reading::flight_number;
 use nl_core::{Core, Programmed, Rounded};
 use nl_core_clean::Cleaned;
 use nl_device::Device;
-use nl_field::{PageBuf, Tag};
+use nl_field::{PageBuf, Tag, VirtualWrite};
 use nl_iface::{Counts, MovingPages};
 use nl_journal::Committing;
 use nl_nand::MemNand;
@@ -32,12 +32,20 @@ pub enum Step {
     Handles(u64),
     /// So many pages behind those of a worker's line.
     Program(u8, u32),
+    /// A staging of the sync of a worker: its goal is fixed, and a unit is done where it is not reached.
+    Stage(u8),
+    /// The effect of the sync of a worker, which tells how many calls are committed, and is a call itself.
+    Sync(u8),
+    /// These rows, one after the other, until an operation fails.
+    Rows(&'static [(Step, Seen)]),
     Drop(u8),
     FreeBlocks,
     Pairs,
     Count,
     Committed,
     Stopped,
+    /// The clock as the last commit page was finished.
+    Moment,
     /// The programs and erases that finished.
     Clock,
 }
@@ -77,6 +85,15 @@ fn of_duty(answer: DutyAnswer) -> Seen {
     }
 }
 
+// What a unit answers, or that it was done.
+fn of_write(answer: VirtualWrite, done: Seen) -> Seen {
+    match answer {
+        VirtualWrite::Done => done,
+        VirtualWrite::Lost { .. } => Seen::Lost,
+        VirtualWrite::Fault => Seen::Fault,
+    }
+}
+
 impl Model for Rig {
     ghost use Rattle.nl_core.specs.Core.{IsCore};
 
@@ -89,7 +106,7 @@ impl Model for Rig {
 
 impl Rig {
     fn call(&mut self) {
-        self.core.count = self.core.count.saturating_add(1);
+        self.core.count_call();
     }
 
     fn round(&mut self) -> Seen {
@@ -215,6 +232,50 @@ impl Rig {
         Seen::Did
     }
 
+    fn stage(&mut self, worker: u8) -> Seen {
+        if is_read_only(&self.core) {
+            return Seen::ReadOnly;
+        }
+        if worker >= 8 || self.core.flight.line(worker) > 1 {
+            return Seen::Nothing;
+        }
+        let goal = self.core.fix_goal(worker, 1);
+        if goal <= self.core.committed {
+            return Seen::Nothing;
+        }
+        of_write(self.core.unit(), Seen::Did)
+    }
+
+    fn sync(&mut self, worker: u8) -> Seen {
+        if is_read_only(&self.core) {
+            return Seen::ReadOnly;
+        }
+        if worker >= 8 {
+            return Seen::Nothing;
+        }
+        let count = self.core.count;
+        let goal = self.core.flight.goal(worker).unwrap_or(count).min(count);
+        self.core.drop_line(worker);
+        let reached = self.core.reach(goal);
+        let seen = of_write(reached, Seen::Number(self.core.committed));
+        self.call();
+        seen
+    }
+
+    /// Runs rows until an operation fails, or one answers something else.
+    fn rows(&mut self, rows: &[(Step, Seen)], buf: &mut PageBuf) -> Seen {
+        for row in rows {
+            let seen = self.run_one(row.0, buf);
+            if self.core.stopped != 0 {
+                return Seen::Fault;
+            }
+            if seen != row.1 {
+                return seen;
+            }
+        }
+        Seen::Did
+    }
+
     fn drop_line(&mut self, worker: u8) -> Seen {
         if worker < 8 {
             self.core.drop_line(worker);
@@ -229,11 +290,20 @@ impl Rig {
             Step::Count => self.core.count,
             Step::Committed => self.core.committed,
             Step::Stopped => self.core.stopped,
+            Step::Moment => self.core.moment,
             _ => self.core.device.clock(),
         }
     }
 
     fn run(&mut self, step: Step, buf: &mut PageBuf) -> Seen {
+        match step {
+            Step::Rows(rows) => self.rows(rows, buf),
+            step => self.run_one(step, buf),
+        }
+    }
+
+    /// Runs a step that is no table.
+    fn run_one(&mut self, step: Step, buf: &mut PageBuf) -> Seen {
         match step {
             Step::Call => {
                 self.call();
@@ -248,6 +318,8 @@ impl Rig {
             Step::Duties(which, count) => self.duties(which, count),
             Step::Handles(last) => self.handles(last),
             Step::Program(worker, count) => self.program(worker, count, buf),
+            Step::Stage(worker) => self.stage(worker),
+            Step::Sync(worker) => self.sync(worker),
             Step::Drop(worker) => self.drop_line(worker),
             step => Seen::Number(self.number(step)),
         }

@@ -1,7 +1,7 @@
 // Rounds of reclaiming until no page is dead.
 use crate::image::Layout;
 use crate::rig::{Seen, Step};
-use crate::visit::{differing, sound, tree};
+use crate::visit::{assert_none_differs, differing, sound, tree};
 
 /// Thirteen blocks of live pages, and three with 8, 10 and 14 dead pages.
 pub const DEAD: Layout = [
@@ -64,5 +64,5 @@ fn until_no_page_is_dead(rt: HostRuntime) {
         tree(&ROUNDS, 11),
         Some(11),
     );
-    assert!(rt; found == Ok(None));
+    assert_none_differs(&rt, found);
 }

@@ -1,7 +1,7 @@
 // Each operation of the rounds is stopped, with each cut, and the volume is opened again.
 use crate::rig::{Seen, Step};
 use crate::rounds::{BUILT, DEAD};
-use crate::visit::{Differs, Visit, differing, sound};
+use crate::visit::{Differs, Visit, assert_none_differs, differing, sound};
 use nl_field::Memory;
 use nl_nand::{Cut, Stop};
 use nl_tree::Duty;
@@ -72,7 +72,7 @@ fn stops_differ(alloc: Global) -> Result<Option<(u64, usize, Differs)>, Memory> 
 
 #[test]
 fn each_operation_is_stopped(rt: HostRuntime) {
-    assert!(rt; stops_differ(rt.alloc()) == Ok(None));
+    assert_none_differs(&rt, stops_differ(rt.alloc()));
 }
 
 // The erases of the three blocks, over their pages.
@@ -90,5 +90,5 @@ fn erases_differ(alloc: Global) -> Result<Option<(u64, usize, Differs)>, Memory>
 
 #[test]
 fn erases_are_cut_over_their_pages(rt: HostRuntime) {
-    assert!(rt; erases_differ(rt.alloc()) == Ok(None));
+    assert_none_differs(&rt, erases_differ(rt.alloc()));
 }

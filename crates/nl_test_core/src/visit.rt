@@ -9,9 +9,11 @@ use nl_field::{FailList, Memory};
 use nl_iface::Counts;
 use nl_nand::{MemNand, Stop};
 use std::alloc::Global;
+use std::mem;
+use std::process::Abort;
 
 /// What differs from what is wanted: the answer of a row, or what is read back.
-#[derive(Clone, Copy, PartialEq)]
+#[derive(Clone, Copy)]
 pub enum Differs {
     Row(usize, Seen),
     Holds(Wrong),
@@ -100,30 +102,44 @@ fn medium_of(core: Core<Device<MemNand>>) -> MemNand {
         nodes: _,
         flight: _,
         freeing: _,
+        leaving: _,
         count: _,
         committed: _,
+        frozen: _,
         moment: _,
         stopped: _,
     } = core;
     device.into_media()
 }
 
-/// What differs in a visit of the volume of a medium, and the medium then.
+/// A medium that was never formed.
+fn blank(alloc: Global) -> MemNand {
+    MemNand::new(alloc, FailList::new(alloc), FailList::new(alloc), None)
+}
+
+/// What differs in a visit of the volume of a medium. Where it cannot be opened the medium is lost.
 fn visited(
     alloc: Global,
-    media: MemNand,
+    media: &mut MemNand,
     visit: Visit<'_>,
     work: &mut Work,
-) -> Result<(Option<Differs>, MemNand), Memory> {
-    let mut rig = opened(alloc, media)?;
+) -> Result<Option<Differs>, Memory> {
+    let before = mem::replace(media, blank(alloc));
+    let mut rig = opened(alloc, before)?;
     let row = rig.differs(visit.rows, &mut work.page);
     let Rig { mut core } = rig;
     let holds = looks(&mut core, visit.holds, work);
-    let media = medium_of(core);
+    *media = medium_of(core);
     match row {
-        Some((at, seen)) => Ok((Some(Differs::Row(at, seen)), media)),
-        None => Ok((holds, media)),
+        Some((at, seen)) => Ok(Some(Differs::Row(at, seen))),
+        None => Ok(holds),
     }
+}
+
+/// The medium is as after a crash, and stops nowhere.
+fn restart(alloc: Global, media: &mut MemNand) {
+    let before = mem::replace(media, blank(alloc));
+    *media = before.restart(None);
 }
 
 /// Rounds until no page is dead: the 480 live pages fill 15 of 24 blocks.
@@ -146,14 +162,13 @@ fn either(first: Option<Differs>, second: Option<Differs>) -> Option<Differs> {
 /// more.
 fn reopened(
     alloc: Global,
-    media: MemNand,
+    media: &mut MemNand,
     calls: u64,
     work: &mut Work,
 ) -> Result<Option<Differs>, Memory> {
     let counted = [(Step::Count, Seen::Number(calls))];
-    let (first, media) = visited(alloc, media, tree(&counted, calls), work)?;
-    let (second, media) = visited(alloc, media, tree(&CLEANED, calls), work)?;
-    drop(media);
+    let first = visited(alloc, media, tree(&counted, calls), work)?;
+    let second = visited(alloc, media, tree(&CLEANED, calls), work)?;
     Ok(either(first, second))
 }
 
@@ -179,17 +194,26 @@ fn differing_in(
     calls: Option<u64>,
     work: &mut Work,
 ) -> Result<Option<Differs>, Memory> {
-    let media = image(alloc, layout, plan)?;
-    let (first, media) = visited(alloc, media, visit, work)?;
+    let mut media = image(alloc, layout, plan)?;
+    let found = differing_on(alloc, &mut media, visit, calls, work);
+    drop(media);
+    found
+}
+
+fn differing_on(
+    alloc: Global,
+    media: &mut MemNand,
+    visit: Visit<'_>,
+    calls: Option<u64>,
+    work: &mut Work,
+) -> Result<Option<Differs>, Memory> {
+    let first = visited(alloc, media, visit, work)?;
     match calls {
         Some(calls) => {
-            let second = reopened(alloc, media.restart(None), calls, work)?;
-            Ok(either(first, second))
+            restart(alloc, media);
+            Ok(either(first, reopened(alloc, media, calls, work)?))
         }
-        None => {
-            drop(media);
-            Ok(first)
-        }
+        None => Ok(first),
     }
 }
 
@@ -205,4 +229,9 @@ pub fn is_fault(alloc: Global, media: MemNand) -> bool {
             false
         }
     }
+}
+
+/// Asserts that nothing differs, and that there was memory.
+pub fn assert_none_differs<T: Copy>(rt: &impl Abort, found: Result<Option<T>, Memory>) {
+    assert!(rt; matches!(found, Ok(None)));
 }

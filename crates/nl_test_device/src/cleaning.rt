@@ -1,6 +1,6 @@
 // A device that is cleaned.
+use crate::asserting::assert_none_differs;
 use crate::device::{Seen, Step, differs};
-use std::test::Fail;
 
 const CLEANED: [(Step, Seen); 42] = [
     (Step::Make, Seen::Did),
@@ -51,9 +51,8 @@ const CLEANED: [(Step, Seen); 42] = [
 
 // The victim is block 8, and its pages go to block 10.
 #[test]
-fn a_victim_is_cleaned(rt: HostRuntime) -> Result<(), Fail> {
-    assert_eq!(rt; differs(rt.alloc(), 0, (0, 0), &CLEANED)?, None);
-    Ok(())
+fn a_victim_is_cleaned(rt: HostRuntime) {
+    assert_none_differs(&rt, differs(rt.alloc(), 0, (0, 0), &CLEANED));
 }
 
 const MOVED_TWICE: [(Step, Seen); 34] = [
@@ -99,9 +98,8 @@ const MOVED_TWICE: [(Step, Seen); 34] = [
 // Blocks 8 and 9 are cleaned, and a page of block 8 moves a second time. A free or an overwrite by an old name ends each callback of
 // the page.
 #[test]
-fn moved_pages_are_freed(rt: HostRuntime) -> Result<(), Fail> {
-    assert_eq!(rt; differs(rt.alloc(), 0, (0, 0), &MOVED_TWICE)?, None);
-    Ok(())
+fn moved_pages_are_freed(rt: HostRuntime) {
+    assert_none_differs(&rt, differs(rt.alloc(), 0, (0, 0), &MOVED_TWICE));
 }
 
 const MANY_PAIRS: [(Step, Seen); 22] = [
@@ -132,9 +130,8 @@ const MANY_PAIRS: [(Step, Seen); 22] = [
 // Three blocks are cleaned that have one dead page each. Then there are more pairs than two blocks have pages, and no victim is begun.
 // Transaction 2 handles the first 28 callbacks.
 #[test]
-fn no_victim_is_begun_with_many_pairs(rt: HostRuntime) -> Result<(), Fail> {
-    assert_eq!(rt; differs(rt.alloc(), 0, (0, 0), &MANY_PAIRS)?, None);
-    Ok(())
+fn no_victim_is_begun_with_many_pairs(rt: HostRuntime) {
+    assert_none_differs(&rt, differs(rt.alloc(), 0, (0, 0), &MANY_PAIRS));
 }
 
 const FAILED_MOVES: [(Step, Seen); 20] = [
@@ -162,9 +159,8 @@ const FAILED_MOVES: [(Step, Seen); 20] = [
 
 // The first read after the scan fails, the first program of a copy, and the first erase.
 #[test]
-fn moves_fail(rt: HostRuntime) -> Result<(), Fail> {
-    assert_eq!(rt; differs(rt.alloc(), 1025, (34, 37), &FAILED_MOVES)?, None);
-    Ok(())
+fn moves_fail(rt: HostRuntime) {
+    assert_none_differs(&rt, differs(rt.alloc(), 1025, (34, 37), &FAILED_MOVES));
 }
 
 const LEVELLED: [(Step, Seen); 14] = [
@@ -188,7 +184,6 @@ const LEVELLED: [(Step, Seen); 14] = [
 // Block 8 keeps its pages while blocks 9 to 31 are written and erased in turn. Once block 9 was erased 16 times, block 8 is taken
 // for the sake of wear. Its first page goes to block 10, the next one in turn.
 #[test]
-fn a_cold_block_is_taken(rt: HostRuntime) -> Result<(), Fail> {
-    assert_eq!(rt; differs(rt.alloc(), 0, (0, 0), &LEVELLED)?, None);
-    Ok(())
+fn a_cold_block_is_taken(rt: HostRuntime) {
+    assert_none_differs(&rt, differs(rt.alloc(), 0, (0, 0), &LEVELLED));
 }

@@ -4,6 +4,7 @@ ghost use Rattle.nl_test_device.specs.Rigs.{HasAddressed};
 ghost use Rattle.nl_nand.specs.Memory.{contents_of, geometry_of};
 ghost use Rattle.nl_nand.specs.Nand.{IsBlank};
 
+use crate::asserting::assert_none_differs;
 use nl_device::{Device, Started};
 use nl_field::{
     FailList, Memory, Named, NamedRead, PageBuf, Pointer, PointerList, Tag, VirtualRead,
@@ -14,7 +15,6 @@ use nl_nand::{MemNand, Stop};
 use nl_test_device_segments::medium::{blank, failing};
 use std::alloc::Global;
 use std::marker::Model;
-use std::test::Fail;
 
 /// A call, with the name of a pointer and its stamp, and with the first byte of a page.
 #[derive(Clone, Copy)]
@@ -445,16 +445,14 @@ const FAILURES: [(Step, Seen); 7] = [
 
 // The physical segment has the pages from 256 on. 24 blocks of 32 pages, one of them kept for the cleaner, have room for 736.
 #[test]
-fn pages_have_names(rt: HostRuntime) -> Result<(), Fail> {
-    assert_eq!(rt; differs(rt.alloc(), 0, (0, 0), &NAMES)?, None);
-    Ok(())
+fn pages_have_names(rt: HostRuntime) {
+    assert_none_differs(&rt, differs(rt.alloc(), 0, (0, 0), &NAMES));
 }
 
 // The first read after the scan fails, and the second program, which takes its number.
 #[test]
-fn calls_fail(rt: HostRuntime) -> Result<(), Fail> {
-    assert_eq!(rt; differs(rt.alloc(), 1025, (2, 0), &FAILURES)?, None);
-    Ok(())
+fn calls_fail(rt: HostRuntime) {
+    assert_none_differs(&rt, differs(rt.alloc(), 1025, (2, 0), &FAILURES));
 }
 
 /// A call with an address.
@@ -550,7 +548,6 @@ fn addressed(alloc: Global) -> Result<(Option<usize>, u64), Memory> {
 
 // The least volume has 103 addresses. A write takes the next number, as a page under a name does.
 #[test]
-fn addresses_have_pages(rt: HostRuntime) -> Result<(), Fail> {
-    assert_eq!(rt; addressed(rt.alloc())?, (None, 4));
-    Ok(())
+fn addresses_have_pages(rt: HostRuntime) {
+    assert!(rt; addressed(rt.alloc()) == Ok((None, 4)));
 }

@@ -2,11 +2,11 @@ ghost use Rattle.std.specs.Prelude.{◌≡◌, ◌<◌, ◌≤◌, ℕ, length};
 ghost use Rattle.nl_meta.specs.Pages.{no_pages, page_of};
 ghost use Rattle.nl_dir.specs.Directory.{IsDirectory};
 
+use crate::asserting::assert_none_differs;
 use nl_dir::{entry_at, find, insert, remove};
 use nl_field::{EntryRec, InodeRec, Kind, Memory, Name, Pointer, Shape};
 use nl_meta::Meta;
 use std::alloc::Global;
-use std::test::Fail;
 
 /// The numbers of a volume of 32 blocks of 32 pages, whose pool has addresses 71 to 102.
 const SHAPE: Shape = Shape {
@@ -158,11 +158,21 @@ fn answered(alloc: Global, count: u32, call: Call) -> Result<Option<Answer>, Mem
     requires { count ≤ 1024 }
 {
     let mut meta = Meta::new(alloc, SHAPE)?;
+    let answer = answer_in(&mut meta, count, call);
+    drop(meta);
+    Ok(answer)
+}
+
+// The same in pages of which none is resident.
+fn answer_in(meta: &mut Meta, count: u32, call: Call) -> Option<Answer>
+    requires blank { meta.old ≡ no_pages 103 }
+    requires few { count ≤ 1024 }
+{
     let mut rec = empty();
-    if !add_first(&mut rec, &mut meta, count) {
-        return Ok(None);
+    if !add_first(&mut rec, meta, count) {
+        return None;
     }
-    Ok(Some(run(&mut rec, &mut meta, call)))
+    Some(run(&mut rec, meta, call))
 }
 
 /// How many entries there are, what is asked, and the answer.
@@ -211,9 +221,8 @@ const INSERTED: [Row; 7] = [
 ];
 
 #[test]
-fn entries_stand_in_pages(rt: HostRuntime) -> Result<(), Fail> {
-    assert_eq!(rt; differs(rt.alloc(), &INSERTED)?, None);
-    Ok(())
+fn entries_stand_in_pages(rt: HostRuntime) {
+    assert_none_differs(&rt, differs(rt.alloc(), &INSERTED));
 }
 
 // The last entry takes the place of the one that is removed, and a page that lost its only entry is given up.
@@ -261,9 +270,8 @@ const REMOVED: [Row; 8] = [
 ];
 
 #[test]
-fn the_last_entry_moves(rt: HostRuntime) -> Result<(), Fail> {
-    assert_eq!(rt; differs(rt.alloc(), &REMOVED)?, None);
-    Ok(())
+fn the_last_entry_moves(rt: HostRuntime) {
+    assert_none_differs(&rt, differs(rt.alloc(), &REMOVED));
 }
 
 const FOUND: [Row; 5] = [
@@ -275,7 +283,6 @@ const FOUND: [Row; 5] = [
 ];
 
 #[test]
-fn names_are_found(rt: HostRuntime) -> Result<(), Fail> {
-    assert_eq!(rt; differs(rt.alloc(), &FOUND)?, None);
-    Ok(())
+fn names_are_found(rt: HostRuntime) {
+    assert_none_differs(&rt, differs(rt.alloc(), &FOUND));
 }

@@ -1,6 +1,8 @@
 // Rows of calls on the lines of workers and their pages in flight, with what each answers.
-use nl_field::{Pointer, Tag};
+use crate::asserting::assert_none_differs;
+use nl_field::{Memory, Pointer, Tag};
 use nl_flight::Flight;
+use std::alloc::Global;
 
 #[derive(Clone, Copy)]
 enum Step {
@@ -140,6 +142,14 @@ fn differs(flight: &mut Flight, rows: &[(Step, Answer)]) -> Option<usize> {
     None
 }
 
+// The same, where nothing is in flight at first.
+fn flown(alloc: Global, rows: &[(Step, Answer)]) -> Result<Option<usize>, Memory> {
+    let mut flight = Flight::new(alloc)?;
+    let row = differs(&mut flight, rows);
+    drop(flight);
+    Ok(row)
+}
+
 // Worker 2 has pages of a line, worker 7 a line without pages.
 const LINES: [(Step, Answer); 27] = [
     (Step::Line(2), Answer::Line(0, 0, None)),
@@ -174,8 +184,7 @@ const LINES: [(Step, Answer); 27] = [
 
 #[test]
 fn lines_are_in_flight(rt: HostRuntime) {
-    let mut flight = Flight::new(rt.alloc()).expect(&rt, "there is memory");
-    assert_eq!(rt; differs(&mut flight, &LINES), None);
+    assert_none_differs(&rt, flown(rt.alloc(), &LINES));
 }
 
 const FULL: [(Step, Answer); 8] = [
@@ -191,6 +200,5 @@ const FULL: [(Step, Answer); 8] = [
 
 #[test]
 fn pages_fill_their_places(rt: HostRuntime) {
-    let mut flight = Flight::new(rt.alloc()).expect(&rt, "there is memory");
-    assert_eq!(rt; differs(&mut flight, &FULL), None);
+    assert_none_differs(&rt, flown(rt.alloc(), &FULL));
 }

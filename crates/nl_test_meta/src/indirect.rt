@@ -4,11 +4,11 @@ ghost use Rattle.nl_test_meta.specs.Tested.{IsTested};
 ghost use Rattle.nl_indirect.specs.Ranges.{range_of};
 ghost use Rattle.nl_indirect.specs.Storing.{BeginsRange};
 
+use crate::asserting::assert_none_differs;
 use nl_field::{InodeRec, Kind, Memory, Pointer, Shape};
 use nl_indirect::{Stored, lookup, page_address, store, truncate};
 use nl_meta::Meta;
 use std::alloc::Global;
-use std::test::Fail;
 
 /// The numbers of a volume of 32 blocks of 32 pages, whose pool begins at address 71.
 const SHAPE: Shape = Shape {
@@ -123,15 +123,24 @@ fn stored_and_taken(alloc: Global, range: u32, index: u32, at: usize) -> Result<
     requires { index < 4104 }
 {
     let mut meta = blank(alloc, range)?;
+    let left = left_in(&mut meta, range, index, at);
+    drop(meta);
+    Ok(left)
+}
+
+fn left_in(meta: &mut Meta, range: u32, index: u32, at: usize) -> Left
+    requires file { IsTested range EMPTY meta.old }
+    requires index { index < 4104 }
+{
     let mut rec = EMPTY;
-    let stored = run(&mut rec, &mut meta, range, index, 5);
-    let stamp = stamp_at(&rec, &meta, range, index);
+    let stored = run(&mut rec, meta, range, index, 5);
+    let stamp = stamp_at(&rec, meta, range, index);
     let address = page_address(&rec, index);
-    let byte = byte_at(&meta, at);
-    let taken = run(&mut rec, &mut meta, range, index, 0);
-    let stamp_then = stamp_at(&rec, &meta, range, index);
+    let byte = byte_at(meta, at);
+    let taken = run(&mut rec, meta, range, index, 0);
+    let stamp_then = stamp_at(&rec, meta, range, index);
     let address_then = page_address(&rec, index);
-    Ok(Left {
+    Left {
         stored,
         stamp,
         address,
@@ -139,7 +148,7 @@ fn stored_and_taken(alloc: Global, range: u32, index: u32, at: usize) -> Result<
         taken,
         stamp_then,
         address_then,
-    })
+    }
 }
 
 const IN_NODE: Left = Left {
@@ -187,9 +196,8 @@ fn borders_differ(alloc: Global) -> Result<Option<usize>, Memory> {
 }
 
 #[test]
-fn pointers_at_borders(rt: HostRuntime) -> Result<(), Fail> {
-    assert_eq!(rt; borders_differ(rt.alloc())?, None);
-    Ok(())
+fn pointers_at_borders(rt: HostRuntime) {
+    assert_none_differs(&rt, borders_differ(rt.alloc()));
 }
 
 // Stores at an index, and gives the answer and what indexes 7, 8 and 263 have then.
@@ -247,14 +255,15 @@ fn differs(rec: &mut InodeRec, meta: &mut Meta, rows: &[Row]) -> Option<usize>
 fn range_differs(alloc: Global) -> Result<Option<usize>, Memory> {
     let mut meta = blank(alloc, 0)?;
     let mut rec = EMPTY;
-    Ok(differs(&mut rec, &mut meta, &OF_A_RANGE))
+    let row = differs(&mut rec, &mut meta, &OF_A_RANGE);
+    drop(meta);
+    Ok(row)
 }
 
 // A page is given back with its last pointer alone, and a new one has no pointer of the last.
 #[test]
-fn pointers_of_a_range(rt: HostRuntime) -> Result<(), Fail> {
-    assert_eq!(rt; range_differs(rt.alloc())?, None);
-    Ok(())
+fn pointers_of_a_range(rt: HostRuntime) {
+    assert_none_differs(&rt, range_differs(rt.alloc()));
 }
 
 // Takes away the pointers from an index on that is at most the first behind the first range.
@@ -274,17 +283,25 @@ fn cut_from(
     from: u32,
 ) -> Result<(u64, u32, Option<u8>, Option<u8>), Memory> {
     let mut meta = blank(alloc, 0)?;
+    let found = cut_in(&mut meta, first, from);
+    drop(meta);
+    Ok(found)
+}
+
+fn cut_in(meta: &mut Meta, first: u64, from: u32) -> (u64, u32, Option<u8>, Option<u8>)
+    requires { IsTested 0 EMPTY meta.old }
+{
     let mut rec = EMPTY;
-    run(&mut rec, &mut meta, 0, 7, 4);
-    run(&mut rec, &mut meta, 0, 263, 6);
-    run(&mut rec, &mut meta, 0, 8, first);
-    cut(&mut rec, &mut meta, from);
-    Ok((
+    run(&mut rec, meta, 0, 7, 4);
+    run(&mut rec, meta, 0, 263, 6);
+    run(&mut rec, meta, 0, 8, first);
+    cut(&mut rec, meta, from);
+    (
         rec.direct[7].stamp,
         rec.addresses[0],
-        byte_at(&meta, 8),
-        byte_at(&meta, 4088),
-    ))
+        byte_at(meta, 8),
+        byte_at(meta, 4088),
+    )
 }
 
 const CUTS: [(u64, u32, (u64, u32, Option<u8>, Option<u8>)); 8] = [
@@ -310,7 +327,6 @@ fn cuts_differ(alloc: Global) -> Result<Option<usize>, Memory> {
 
 // A page is cut where a pointer before the index stays, and else it is the file's no longer.
 #[test]
-fn pointers_from_an_index_on(rt: HostRuntime) -> Result<(), Fail> {
-    assert_eq!(rt; cuts_differ(rt.alloc())?, None);
-    Ok(())
+fn pointers_from_an_index_on(rt: HostRuntime) {
+    assert_none_differs(&rt, cuts_differ(rt.alloc()));
 }

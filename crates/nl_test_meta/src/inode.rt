@@ -1,10 +1,10 @@
 ghost use Rattle.std.specs.Prelude.{◌≡◌, ◌<◌, length};
 
+use crate::asserting::assert_none_differs;
 use nl_field::{Kind, Memory, Shape};
 use nl_inode::{Nodes, taken};
 use nl_meta::Meta;
 use std::alloc::Global;
-use std::test::Fail;
 
 /// The numbers of a volume of 32 blocks of 32 pages: 64 nodes in addresses 67 to 70, and a pool in addresses 71 to 102.
 const SHAPE: Shape = Shape {
@@ -130,41 +130,73 @@ const TAKEN: [(Step, Option<u32>); 22] = [
 
 fn nodes_differ(alloc: Global) -> Result<Option<usize>, Memory> {
     let mut nodes = Nodes::new(alloc, SHAPE)?;
-    Ok(differs(&mut nodes, &TAKEN))
+    let row = differs(&mut nodes, &TAKEN);
+    drop(nodes);
+    Ok(row)
 }
 
 // The least is taken, up to the last one; what is given is taken again.
 #[test]
-fn the_least_is_taken(rt: HostRuntime) -> Result<(), Fail> {
-    assert_eq!(rt; nodes_differ(rt.alloc())?, None);
-    Ok(())
+fn the_least_is_taken(rt: HostRuntime) {
+    assert_none_differs(&rt, nodes_differ(rt.alloc()));
 }
 
-// The kind and the first byte of the generation at a byte of the page of a node that was taken.
+// Makes the node taken, in a fresh page of its own, and gives the kind and the first byte of the generation that stand at a byte of the page.
+fn shown(meta: &mut Meta, nodes: &mut Nodes, ino: u32, at: usize) -> Option<(u8, u8)>
+    requires count { length meta.old.running ≡ 103 }
+    requires node { ino < 64 }
+    requires at { at < 4092 }
+{
+    let page = 67 + ino / 16;
+    if !meta.fresh(page) || !nodes.put(meta, ino, &taken(Kind::File, 6)) {
+        return None;
+    }
+    let main = meta.page(page).main();
+    Some((main[at], main[at + 4]))
+}
+
+fn bytes_in(alloc: Global, meta: &mut Meta, ino: u32, at: usize) -> Result<Option<(u8, u8)>, Memory>
+    requires count { length meta.old.running ≡ 103 }
+    requires node { ino < 64 }
+    requires at { at < 4092 }
+{
+    let mut nodes = Nodes::new(alloc, SHAPE)?;
+    let found = shown(meta, &mut nodes, ino, at);
+    drop(nodes);
+    Ok(found)
+}
+
 fn bytes_at(alloc: Global, ino: u32, at: usize) -> Result<Option<(u8, u8)>, Memory>
     requires node { ino < 64 }
     requires at { at < 4092 }
 {
     let mut meta = Meta::new(alloc, SHAPE)?;
-    let mut nodes = Nodes::new(alloc, SHAPE)?;
-    let page = 67 + ino / 16;
-    if !meta.fresh(page) {
-        return Ok(None);
+    let found = bytes_in(alloc, &mut meta, ino, at);
+    drop(meta);
+    found
+}
+
+// A node that is taken, a byte of its page, and the bytes there and four bytes on.
+const STAND: [(u32, usize, (u8, u8)); 5] = [
+    (0, 0, (1, 7)),
+    (15, 3840, (1, 7)),
+    (16, 0, (1, 7)),
+    (17, 0, (0, 0)),
+    (63, 3840, (1, 7)),
+];
+
+fn stand_differs(alloc: Global) -> Result<Option<usize>, Memory> {
+    for row in 0..5usize {
+        let (ino, at, want) = STAND[row];
+        if ino >= 64 || at >= 4092 || bytes_at(alloc, ino, at)? != Some(want) {
+            return Ok(Some(row));
+        }
     }
-    if !nodes.put(&mut meta, ino, &taken(Kind::File, 6)) {
-        return Ok(None);
-    }
-    let main = meta.page(page).main();
-    Ok(Some((main[at], main[at + 4])))
+    Ok(None)
 }
 
 // Sixteen nodes to a page, 256 bytes each: the kind first, and the generation from byte 4 on.
 #[test]
-fn nodes_stand_in_pages(rt: HostRuntime) -> Result<(), Fail> {
-    assert_eq!(rt; bytes_at(rt.alloc(), 0, 0)?, Some((1, 7)));
-    assert_eq!(rt; bytes_at(rt.alloc(), 15, 3840)?, Some((1, 7)));
-    assert_eq!(rt; bytes_at(rt.alloc(), 16, 0)?, Some((1, 7)));
-    assert_eq!(rt; bytes_at(rt.alloc(), 17, 0)?, Some((0, 0)));
-    assert_eq!(rt; bytes_at(rt.alloc(), 63, 3840)?, Some((1, 7)));
-    Ok(())
+fn nodes_stand_in_pages(rt: HostRuntime) {
+    assert_none_differs(&rt, stand_differs(rt.alloc()));
 }

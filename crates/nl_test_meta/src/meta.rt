@@ -1,10 +1,10 @@
 ghost use Rattle.std.specs.Prelude.{◌≡◌, ◌<◌, [], IsTrue, length};
 ghost use Rattle.nl_field.specs.Members.{Has};
 
+use crate::asserting::assert_none_differs;
 use nl_field::{Memory, Shape};
 use nl_meta::Meta;
 use std::alloc::Global;
-use std::test::Fail;
 
 /// The numbers of a volume of 32 blocks of 32 pages, which has 103 addresses.
 const SHAPE: Shape = Shape {
@@ -189,12 +189,13 @@ const PAGES: [(Step, Answer); 26] = [
 
 fn pages_differ(alloc: Global) -> Result<Option<usize>, Memory> {
     let mut meta = Meta::new(alloc, SHAPE)?;
-    Ok(differs(&mut meta, &PAGES))
+    let row = differs(&mut meta, &PAGES);
+    drop(meta);
+    Ok(row)
 }
 
 // 63 pages besides address 0 are dirty at most, and a frozen page does not follow the running one.
 #[test]
-fn pages_run_and_are_frozen(rt: HostRuntime) -> Result<(), Fail> {
-    assert_eq!(rt; pages_differ(rt.alloc())?, None);
-    Ok(())
+fn pages_run_and_are_frozen(rt: HostRuntime) {
+    assert_none_differs(&rt, pages_differ(rt.alloc()));
 }

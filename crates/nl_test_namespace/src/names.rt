@@ -3,6 +3,7 @@ ghost use Rattle.std.specs.Prelude.{IfOk, IfSome};
 ghost use Rattle.nl_test_namespace.specs.Volumes.{AddressesCanBeWritten, IsOpen};
 ghost use Rattle.nl_namespace.specs.Calls.{PathsHaveNames, IsOfNames};
 
+use crate::asserting::assert_none_differs;
 use crate::calls::Seen;
 use crate::paths::{Names, Series, path_of};
 use crate::volume::{After, Volume, change_names, list_names, make_all, opened, reopened};
@@ -12,7 +13,6 @@ use nl_scan::ScanTables;
 use nl_test_files::device::Stamps;
 use nl_tree::{Call, Refusal, Space};
 use std::alloc::Global;
-use std::test::Fail;
 
 /// A call on paths.
 #[derive(Clone, Copy)]
@@ -242,21 +242,18 @@ fn saves(alloc: Global) -> Result<Option<usize>, Memory> {
 }
 
 #[test]
-fn names_are_changed(rt: HostRuntime) -> Result<(), Fail> {
-    assert_eq!(rt; renames(rt.alloc())?, None);
-    Ok(())
+fn names_are_changed(rt: HostRuntime) {
+    assert_none_differs(&rt, renames(rt.alloc()));
 }
 
 #[test]
-fn directories_are_changed(rt: HostRuntime) -> Result<(), Fail> {
-    assert_eq!(rt; directories(rt.alloc())?, None);
-    Ok(())
+fn directories_are_changed(rt: HostRuntime) {
+    assert_none_differs(&rt, directories(rt.alloc()));
 }
 
 #[test]
-fn a_note_is_saved(rt: HostRuntime) -> Result<(), Fail> {
-    assert_eq!(rt; saves(rt.alloc())?, None);
-    Ok(())
+fn a_note_is_saved(rt: HostRuntime) {
+    assert_none_differs(&rt, saves(rt.alloc()));
 }
 
 // The volume has 64 nodes, one of which is the root. Three letters name the number of a file.
@@ -309,15 +306,13 @@ fn pool(alloc: Global) -> Result<Option<usize>, Memory> {
 }
 
 #[test]
-fn nodes_are_used_up(rt: HostRuntime) -> Result<(), Fail> {
-    assert_eq!(rt; nodes(rt.alloc())?, None);
-    Ok(())
+fn nodes_are_used_up(rt: HostRuntime) {
+    assert_none_differs(&rt, nodes(rt.alloc()));
 }
 
 #[test]
-fn pages_are_used_up(rt: HostRuntime) -> Result<(), Fail> {
-    assert_eq!(rt; pool(rt.alloc())?, None);
-    Ok(())
+fn pages_are_used_up(rt: HostRuntime) {
+    assert_none_differs(&rt, pool(rt.alloc()));
 }
 
 const LONGEST: &[u8] = b"nnnnnnnnnnnnnnnnnnnnnnnnnnnnnnnnnnnnnnnnnnnnnnnnnnnnnnn";
@@ -359,7 +354,6 @@ fn full(alloc: Global) -> Result<Option<usize>, Memory> {
 }
 
 #[test]
-fn a_directory_is_filled(rt: HostRuntime) -> Result<(), Fail> {
-    assert_eq!(rt; full(rt.alloc())?, None);
-    Ok(())
+fn a_directory_is_filled(rt: HostRuntime) {
+    assert_none_differs(&rt, full(rt.alloc()));
 }

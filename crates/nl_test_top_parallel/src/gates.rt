@@ -101,3 +101,47 @@ impl Gate for Chores {
         }
     }
 }
+
+/// Worker 1 is held before its line 5 until worker 0 has staged its line 4, a sync, and worker 0 is held there until worker 1 has done its
+/// line 5.
+#[derive(Drop)]
+pub struct Syncing {
+    staged: AtomicU32,
+    done: AtomicU32,
+    held: AtomicU32,
+}
+
+impl Syncing {
+    /// A gate at which no worker was yet.
+    pub fn new() -> Syncing {
+        Syncing {
+            staged: AtomicU32::new(0),
+            done: AtomicU32::new(0),
+            held: AtomicU32::new(0),
+        }
+    }
+
+    /// How many of the two workers were held until what they waited for was done.
+    pub fn held(&self) -> u32 {
+        self.held.load(Ordering::SeqCst)
+    }
+}
+
+impl Gate for Syncing {
+    ghost heard = { λ gate worker line place. Unit {0} };
+
+    fn at(&self, worker: u8, line: u32, place: GatePlace) {
+        if worker == 1 && line == 5 && place == GatePlace::After {
+            self.done.fetch_add(1, Ordering::SeqCst);
+        }
+        if worker == 1 && line == 5 && place == GatePlace::Before && is_reached(&self.staged) {
+            self.held.fetch_add(1, Ordering::SeqCst);
+        }
+        if worker == 0 && line == 4 && place == GatePlace::Staged {
+            self.staged.fetch_add(1, Ordering::SeqCst);
+            if is_reached(&self.done) {
+                self.held.fetch_add(1, Ordering::SeqCst);
+            }
+        }
+    }
+}

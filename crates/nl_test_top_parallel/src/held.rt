@@ -1,5 +1,6 @@
 // Workers that a gate holds.
-use crate::gates::{Chores, Holding};
+use crate::asserting::assert_none_wrong;
+use crate::gates::{Chores, Holding, Syncing};
 use nl_field::Memory;
 use nl_testkit_program::built::{Built, full};
 use nl_testkit_program::play::Step;
@@ -7,7 +8,6 @@ use nl_testkit_program::program::{Given, Rig};
 use nl_top::Gate;
 use std::alloc::Global;
 use std::sync::Wait;
-use std::test::Fail;
 use std::thread::Threads;
 
 // Whether a run under a gate is told as wanted.
@@ -83,12 +83,47 @@ barrier
 ];
 
 #[test]
-fn staged_pages_are_moved(rt: HostRuntime) -> Result<(), Fail> {
+fn staged_pages_are_moved(rt: HostRuntime) {
     let gate = Holding::new();
-    let wrong = held(&rt, rt.alloc(), &STAGED, &gate)?;
-    assert_eq!(rt; wrong.as_str(), "");
-    assert_eq!(rt; gate.held(), 2);
-    Ok(())
+    assert_none_wrong(&rt, held(&rt, rt.alloc(), &STAGED, &gate));
+    assert!(rt; gate.held() == 2);
+}
+
+// Worker 0 has staged all units of its sync while the write of worker 1 goes through. The sync has the calls before it began.
+const SYNCED: [Step<'static>; 3] = [
+    ("check", "", 0, "sound 0\n"),
+    (
+        "run",
+        "1 create /a
+1 create /b
+barrier
+0 sync
+1 write /a 0 61
+barrier
+0 sync
+",
+        0,
+        "opened 0
+1 @1 ok
+2 @2 ok
+5 @3 ok 1
+4 @4 ok 2
+7 @5 ok 4
+",
+    ),
+    (
+        "run",
+        "0 read /a 0 9\n0 read /b 0 9\n",
+        0,
+        "opened 5\n1 @6 ok 61\n2 @7 ok -\n",
+    ),
+];
+
+#[test]
+fn a_write_goes_through_beside_a_sync(rt: HostRuntime) {
+    let gate = Syncing::new();
+    assert_none_wrong(&rt, held(&rt, rt.alloc(), &SYNCED, &gate));
+    assert!(rt; gate.held() == 2);
 }
 
 // Every second piece of the first 224 pages is written over.
@@ -133,10 +168,8 @@ fn chores<Rt: Threads + Wait + Sync>(
 }
 
 #[test]
-fn the_cleaner_and_the_handler_act(rt: HostRuntime) -> Result<(), Fail> {
+fn the_cleaner_and_the_handler_act(rt: HostRuntime) {
     let gate = Chores::new();
-    let wrong = chores(&rt, rt.alloc(), &gate)?;
-    assert_eq!(rt; wrong.as_str(), "");
+    assert_none_wrong(&rt, chores(&rt, rt.alloc(), &gate));
     assert!(rt; gate.held());
-    Ok(())
 }

@@ -1,4 +1,5 @@
 // Workers that run beside each other as they come.
+use crate::asserting::assert_none_wrong;
 use crate::workload::{Workload, is_course};
 use nl_field::Memory;
 use nl_testkit_program::play::{FORMAT, Step};
@@ -6,7 +7,6 @@ use nl_testkit_program::program::Rig;
 use std::alloc::Global;
 use std::fmt::Write;
 use std::sync::Wait;
-use std::test::Fail;
 use std::thread::Threads;
 
 // Whether these lines are told as wanted on a new volume.
@@ -64,10 +64,8 @@ fn two<Rt: Threads + Wait + Sync>(rt: &Rt, alloc: Global) -> Result<String, Memo
 }
 
 #[test]
-fn two_rounds(rt: HostRuntime) -> Result<(), Fail> {
-    let wrong = two(&rt, rt.alloc())?;
-    assert_eq!(rt; wrong.as_str(), "");
-    Ok(())
+fn two_rounds(rt: HostRuntime) {
+    assert_none_wrong(&rt, two(&rt, rt.alloc()));
 }
 
 /// A call and its answer: `%` stands for a worker, and `#` for a byte that it fills its file with.
@@ -179,8 +177,6 @@ fn eight<Rt: Threads + Wait + Sync>(rt: &Rt, alloc: Global) -> Result<String, Me
 }
 
 #[test]
-fn eight_workers(rt: HostRuntime) -> Result<(), Fail> {
-    let wrong = eight(&rt, rt.alloc())?;
-    assert_eq!(rt; wrong.as_str(), "");
-    Ok(())
+fn eight_workers(rt: HostRuntime) {
+    assert_none_wrong(&rt, eight(&rt, rt.alloc()));
 }

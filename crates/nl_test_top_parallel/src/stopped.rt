@@ -1,4 +1,5 @@
 // Workers that run beside each other on a medium that stops.
+use crate::asserting::assert_none_wrong;
 use nl_field::Memory;
 use nl_nand::{Cut, Stop};
 use nl_testkit_program::play::{FORMAT, answered};
@@ -6,7 +7,6 @@ use nl_testkit_program::program::{Rig, Told};
 use nl_top::OrderList;
 use std::alloc::Global;
 use std::sync::Wait;
-use std::test::Fail;
 use std::thread::Threads;
 
 // Each of three workers writes its own file.
@@ -119,15 +119,11 @@ fn each<Rt: Threads + Wait + Sync>(rt: &Rt, alloc: Global, cut: Cut) -> Result<S
 }
 
 #[test]
-fn workers_are_stopped_before(rt: HostRuntime) -> Result<(), Fail> {
-    let wrong = each(&rt, rt.alloc(), Cut::Before)?;
-    assert_eq!(rt; wrong.as_str(), "");
-    Ok(())
+fn workers_are_stopped_before(rt: HostRuntime) {
+    assert_none_wrong(&rt, each(&rt, rt.alloc(), Cut::Before));
 }
 
 #[test]
-fn workers_are_stopped_and_spoil_a_page(rt: HostRuntime) -> Result<(), Fail> {
-    let wrong = each(&rt, rt.alloc(), Cut::Spoilt)?;
-    assert_eq!(rt; wrong.as_str(), "");
-    Ok(())
+fn workers_are_stopped_and_spoil_a_page(rt: HostRuntime) {
+    assert_none_wrong(&rt, each(&rt, rt.alloc(), Cut::Spoilt));
 }

@@ -1,4 +1,5 @@
 // The bytes of a file, printed.
+use crate::asserting::assert_none_wrong;
 use nl_field::Memory;
 use nl_testkit_program::play::{FORMAT, Step};
 use nl_testkit_program::program::{Given, Rig};
@@ -6,7 +7,6 @@ use nl_top::NoGate;
 use nl_tree::Refusal;
 use std::alloc::Global;
 use std::sync::Wait;
-use std::test::Fail;
 use std::thread::Threads;
 
 // A file whose second page is a hole, and whose last one has three bytes; one whose bytes lie in two pieces; and one without bytes.
@@ -63,10 +63,8 @@ fn files_wrong<Rt: Threads + Wait + Sync>(rt: &Rt, alloc: Global) -> Result<Stri
 }
 
 #[test]
-fn files(rt: HostRuntime) -> Result<(), Fail> {
-    let wrong = files_wrong(&rt, rt.alloc())?;
-    assert_eq!(rt; wrong.as_str(), "");
-    Ok(())
+fn files(rt: HostRuntime) {
+    assert_none_wrong(&rt, files_wrong(&rt, rt.alloc()));
 }
 
 // Words, and the refusal of the tree.
@@ -107,10 +105,8 @@ fn refused_wrong<Rt: Threads + Wait + Sync>(rt: &Rt, alloc: Global) -> Result<St
 }
 
 #[test]
-fn paths_that_are_no_files(rt: HostRuntime) -> Result<(), Fail> {
-    let wrong = refused_wrong(&rt, rt.alloc())?;
-    assert_eq!(rt; wrong.as_str(), "");
-    Ok(())
+fn paths_that_are_no_files(rt: HostRuntime) {
+    assert_none_wrong(&rt, refused_wrong(&rt, rt.alloc()));
 }
 
 // Whether of two pieces the first is printed, where the sink does not take the second.
@@ -142,8 +138,6 @@ fn cut_wrong<Rt: Threads + Wait + Sync>(rt: &Rt, alloc: Global) -> Result<String
 }
 
 #[test]
-fn a_sink_that_fails_at_the_second_piece(rt: HostRuntime) -> Result<(), Fail> {
-    let wrong = cut_wrong(&rt, rt.alloc())?;
-    assert_eq!(rt; wrong.as_str(), "");
-    Ok(())
+fn a_sink_that_fails_at_the_second_piece(rt: HostRuntime) {
+    assert_none_wrong(&rt, cut_wrong(&rt, rt.alloc()));
 }

@@ -1,13 +1,21 @@
-//! Tests of the top call on media in memory: scripts of one worker, soaks, what a volume shows, its map as text and as a picture, and
-//! the bytes of a file.
+//! Tests of the top call on media in memory: scripts of one worker, soaks, what a volume shows, its map as text and as a picture, the
+//! bytes of a file, files that are put, what a volume has room for, and what is refused.
 #![tactic(auto)]
 
 #[cfg(test)]
+mod asserting;
+#[cfg(test)]
 mod gets;
+#[cfg(test)]
+mod limits;
 #[cfg(test)]
 mod maps;
 #[cfg(test)]
 mod pictures;
+#[cfg(test)]
+mod puts;
+#[cfg(test)]
+mod refused;
 #[cfg(test)]
 mod rows;
 #[cfg(test)]

@@ -1,7 +1,7 @@
 // Scripts of one worker on a new volume of 32 blocks of 32 pages, and their texts.
+use crate::asserting::assert_none_wrong;
 use nl_testkit_program::note::{NOTE, SAVED};
 use nl_testkit_program::play::{FORMAT, Step, play_blank, play_rows};
-use std::test::Fail;
 
 const GEOMETRIES: [Step<'static>; 6] = [
     ("run", "", 7, "blank\n"),
@@ -18,10 +18,8 @@ const GEOMETRIES: [Step<'static>; 6] = [
 ];
 
 #[test]
-fn geometries(rt: HostRuntime) -> Result<(), Fail> {
-    let wrong = play_blank(&rt, rt.alloc(), &GEOMETRIES)?;
-    assert_eq!(rt; wrong.as_str(), "");
-    Ok(())
+fn geometries(rt: HostRuntime) {
+    assert_none_wrong(&rt, play_blank(&rt, rt.alloc(), &GEOMETRIES));
 }
 
 const ROWS: [&[Step<'static>]; 11] = [
@@ -156,8 +154,6 @@ const ROWS: [&[Step<'static>]; 11] = [
 ];
 
 #[test]
-fn rows(rt: HostRuntime) -> Result<(), Fail> {
-    let wrong = play_rows(&rt, rt.alloc(), &ROWS)?;
-    assert_eq!(rt; wrong.as_str(), "");
-    Ok(())
+fn rows(rt: HostRuntime) {
+    assert_none_wrong(&rt, play_rows(&rt, rt.alloc(), &ROWS));
 }

@@ -1,7 +1,7 @@
 // A soak: its summary, the same one each time. The expected texts are those of a generator and a tree of files that were written apart from
 // the program.
+use crate::asserting::assert_none_wrong;
 use nl_testkit_program::play::{FORMAT, Step, play_blank};
-use std::test::Fail;
 
 const LONG: &str =
     "soak calls 1608 ok 1090 refused 518\nbytes written 4637283 read 21686\ndata 201 nodes 34 meta 16\n";
@@ -26,10 +26,8 @@ const SUMMARIES: [Step<'static>; 6] = [
 ];
 
 #[test]
-fn summaries(rt: HostRuntime) -> Result<(), Fail> {
-    let wrong = play_blank(&rt, rt.alloc(), &SUMMARIES)?;
-    assert_eq!(rt; wrong.as_str(), "");
-    Ok(())
+fn summaries(rt: HostRuntime) {
+    assert_none_wrong(&rt, play_blank(&rt, rt.alloc(), &SUMMARIES));
 }
 
 const A_LONG_ONE_ON_TWO_NEW_VOLUMES: [Step<'static>; 5] = [
@@ -51,8 +49,9 @@ const A_LONG_ONE_ON_TWO_NEW_VOLUMES: [Step<'static>; 5] = [
 ];
 
 #[test]
-fn a_long_one_on_two_new_volumes(rt: HostRuntime) -> Result<(), Fail> {
-    let wrong = play_blank(&rt, rt.alloc(), &A_LONG_ONE_ON_TWO_NEW_VOLUMES)?;
-    assert_eq!(rt; wrong.as_str(), "");
-    Ok(())
+fn a_long_one_on_two_new_volumes(rt: HostRuntime) {
+    assert_none_wrong(
+        &rt,
+        play_blank(&rt, rt.alloc(), &A_LONG_ONE_ON_TWO_NEW_VOLUMES),
+    );
 }

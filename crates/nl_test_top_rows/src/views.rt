@@ -1,4 +1,5 @@
 // The paths of a volume, and its report.
+use crate::asserting::assert_none_wrong;
 use nl_field::Memory;
 use nl_testkit_program::note::{NOTE, SAVED};
 use nl_testkit_program::play::{FORMAT, Step, play_blank, played};
@@ -6,7 +7,6 @@ use nl_testkit_program::program::{Given, Rig};
 use nl_top::NoGate;
 use std::alloc::Global;
 use std::sync::Wait;
-use std::test::Fail;
 use std::thread::Threads;
 
 const A_NEW_VOLUME: [Step<'static>; 8] = [
@@ -37,10 +37,8 @@ const A_NEW_VOLUME: [Step<'static>; 8] = [
 ];
 
 #[test]
-fn a_new_volume(rt: HostRuntime) -> Result<(), Fail> {
-    let wrong = play_blank(&rt, rt.alloc(), &A_NEW_VOLUME)?;
-    assert_eq!(rt; wrong.as_str(), "");
-    Ok(())
+fn a_new_volume(rt: HostRuntime) {
+    assert_none_wrong(&rt, play_blank(&rt, rt.alloc(), &A_NEW_VOLUME));
 }
 
 const A_SAVED_NOTE: [Step<'static>; 4] = [
@@ -61,10 +59,8 @@ const A_SAVED_NOTE: [Step<'static>; 4] = [
 ];
 
 #[test]
-fn a_saved_note(rt: HostRuntime) -> Result<(), Fail> {
-    let wrong = played(&rt, rt.alloc(), &A_SAVED_NOTE)?;
-    assert_eq!(rt; wrong.as_str(), "");
-    Ok(())
+fn a_saved_note(rt: HostRuntime) {
+    assert_none_wrong(&rt, played(&rt, rt.alloc(), &A_SAVED_NOTE));
 }
 
 // A directory comes before what is under it, and siblings by their bytes.
@@ -84,10 +80,8 @@ const THE_ORDER_OF_PATHS: [Step<'static>; 2] = [
 ];
 
 #[test]
-fn the_order_of_paths(rt: HostRuntime) -> Result<(), Fail> {
-    let wrong = played(&rt, rt.alloc(), &THE_ORDER_OF_PATHS)?;
-    assert_eq!(rt; wrong.as_str(), "");
-    Ok(())
+fn the_order_of_paths(rt: HostRuntime) {
+    assert_none_wrong(&rt, played(&rt, rt.alloc(), &THE_ORDER_OF_PATHS));
 }
 
 // Words, which write of the sink fails, and the text: each path is written by itself, a report and both maps at once.
@@ -130,8 +124,6 @@ fn sink_wrong<Rt: Threads + Wait + Sync>(rt: &Rt, alloc: Global) -> Result<Strin
 }
 
 #[test]
-fn a_sink_that_fails(rt: HostRuntime) -> Result<(), Fail> {
-    let wrong = sink_wrong(&rt, rt.alloc())?;
-    assert_eq!(rt; wrong.as_str(), "");
-    Ok(())
+fn a_sink_that_fails(rt: HostRuntime) {
+    assert_none_wrong(&rt, sink_wrong(&rt, rt.alloc()));
 }

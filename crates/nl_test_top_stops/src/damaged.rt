@@ -1,11 +1,11 @@
 // Media that no volume opens on.
+use crate::asserting::assert_none_wrong;
 use nl_field::Memory;
 use nl_nand::{Cut, Nand, Stop};
 use nl_testkit_program::play::{FORMAT, Step};
 use nl_testkit_program::program::Rig;
 use std::alloc::Global;
 use std::sync::Wait;
-use std::test::Fail;
 use std::thread::Threads;
 
 const HELLO: Step<'static> = (
@@ -81,10 +81,8 @@ fn blocks<Rt: Threads + Wait + Sync>(rt: &Rt, alloc: Global) -> Result<String, M
 }
 
 #[test]
-fn blocks_are_spoilt(rt: HostRuntime) -> Result<(), Fail> {
-    let wrong = blocks(&rt, rt.alloc())?;
-    assert_eq!(rt; wrong.as_str(), "");
-    Ok(())
+fn blocks_are_spoilt(rt: HostRuntime) {
+    assert_none_wrong(&rt, blocks(&rt, rt.alloc()));
 }
 
 // What a making leaves that is stopped.
@@ -158,10 +156,8 @@ fn makings<Rt: Threads + Wait + Sync>(rt: &Rt, alloc: Global) -> Result<String, 
 }
 
 #[test]
-fn a_making_is_stopped(rt: HostRuntime) -> Result<(), Fail> {
-    let wrong = makings(&rt, rt.alloc())?;
-    assert_eq!(rt; wrong.as_str(), "");
-    Ok(())
+fn a_making_is_stopped(rt: HostRuntime) {
+    assert_none_wrong(&rt, makings(&rt, rt.alloc()));
 }
 
 // From a stop on each call of the medium fails.
@@ -200,8 +196,6 @@ fn stopped<Rt: Threads + Wait + Sync>(rt: &Rt, alloc: Global) -> Result<String, 
 }
 
 #[test]
-fn a_medium_has_stopped(rt: HostRuntime) -> Result<(), Fail> {
-    let wrong = stopped(&rt, rt.alloc())?;
-    assert_eq!(rt; wrong.as_str(), "");
-    Ok(())
+fn a_medium_has_stopped(rt: HostRuntime) {
+    assert_none_wrong(&rt, stopped(&rt, rt.alloc()));
 }

@@ -1,11 +1,11 @@
 // The erase of a block that is cleaned is stopped, or fails.
+use crate::asserting::assert_none_wrong;
 use nl_field::{FailList, Memory};
 use nl_nand::{Cut, MemNand, Stop};
 use nl_testkit_program::play::{FORMAT, Step, answered};
 use nl_testkit_program::program::{Rig, only};
 use std::alloc::Global;
 use std::sync::Wait;
-use std::test::Fail;
 use std::thread::Threads;
 
 const CLEANED: &str = "0 create /a
@@ -17,10 +17,10 @@ const CLEANED: &str = "0 create /a
 0 clean
 ";
 
-/// The erase of the cleaning: before it come the 48 pages of the fills, the 12 programs of the sync (a header, the images of the super
-/// page, the nodes, the root and the pointers of both files, the commit page, and five pages that are copied home), and the copies of the
-/// 16 pages of the first block that are live.
-const ERASE: u64 = 48 + 12 + 16 + 1;
+/// The erase of the cleaning: before it come the 48 pages of the fills, the 7 programs of the sync (a header, the images of the super page,
+/// the nodes, the root and the pointers of both files, and the commit page), and the copies of the 16 pages of the first block that are
+/// live. The five pages are copied home as the volume is closed.
+const ERASE: u64 = 48 + 7 + 16 + 1;
 
 /// The run in which that erase does not come to its end.
 const STOPPED: Step<'static> = (
@@ -139,10 +139,8 @@ fn cuts<Rt: Threads + Wait + Sync>(rt: &Rt, alloc: Global) -> Result<String, Mem
 }
 
 #[test]
-fn the_erase_is_stopped(rt: HostRuntime) -> Result<(), Fail> {
-    let wrong = cuts(&rt, rt.alloc())?;
-    assert_eq!(rt; wrong.as_str(), "");
-    Ok(())
+fn the_erase_is_stopped(rt: HostRuntime) {
+    assert_none_wrong(&rt, cuts(&rt, rt.alloc()));
 }
 
 // The making has two programs.
@@ -159,8 +157,6 @@ fn failure_right<Rt: Threads + Wait + Sync>(rig: &mut Rig<'_, Rt>) -> Result<boo
 }
 
 #[test]
-fn the_erase_fails(rt: HostRuntime) -> Result<(), Fail> {
-    let wrong = failure(&rt, rt.alloc())?;
-    assert_eq!(rt; wrong.as_str(), "");
-    Ok(())
+fn the_erase_fails(rt: HostRuntime) {
+    assert_none_wrong(&rt, failure(&rt, rt.alloc()));
 }

@@ -2,9 +2,13 @@
 #![tactic(auto)]
 
 #[cfg(test)]
+mod asserting;
+#[cfg(test)]
 mod damaged;
 #[cfg(test)]
 mod erased;
+#[cfg(test)]
+mod puts;
 #[cfg(test)]
 mod saving;
 #[cfg(test)]

@@ -1,4 +1,5 @@
 // Each stop of the saving of a note, and stops of the run behind it.
+use crate::asserting::assert_none_wrong;
 use crate::stops::{again_right, run_until, stop_right};
 use nl_field::Memory;
 use nl_nand::{Cut, Stop};
@@ -7,7 +8,6 @@ use nl_testkit_program::play::FORMAT;
 use nl_testkit_program::program::Rig;
 use std::alloc::Global;
 use std::sync::Wait;
-use std::test::Fail;
 use std::thread::Threads;
 
 // Whether the savings are right that are stopped with this cut, within each of the programs.
@@ -30,24 +30,18 @@ fn saving<Rt: Threads + Wait + Sync>(rt: &Rt, alloc: Global, cut: Cut) -> Result
 }
 
 #[test]
-fn each_program_is_stopped_before(rt: HostRuntime) -> Result<(), Fail> {
-    let wrong = saving(&rt, rt.alloc(), Cut::Before)?;
-    assert_eq!(rt; wrong.as_str(), "");
-    Ok(())
+fn each_program_is_stopped_before(rt: HostRuntime) {
+    assert_none_wrong(&rt, saving(&rt, rt.alloc(), Cut::Before));
 }
 
 #[test]
-fn each_program_is_stopped_after(rt: HostRuntime) -> Result<(), Fail> {
-    let wrong = saving(&rt, rt.alloc(), Cut::After)?;
-    assert_eq!(rt; wrong.as_str(), "");
-    Ok(())
+fn each_program_is_stopped_after(rt: HostRuntime) {
+    assert_none_wrong(&rt, saving(&rt, rt.alloc(), Cut::After));
 }
 
 #[test]
-fn each_program_is_stopped_and_spoilt(rt: HostRuntime) -> Result<(), Fail> {
-    let wrong = saving(&rt, rt.alloc(), Cut::Spoilt)?;
-    assert_eq!(rt; wrong.as_str(), "");
-    Ok(())
+fn each_program_is_stopped_and_spoilt(rt: HostRuntime) {
+    assert_none_wrong(&rt, saving(&rt, rt.alloc(), Cut::Spoilt));
 }
 
 // Whether the savings are right that are stopped with one cut, and whose next run is stopped with another. Of the next run another program
@@ -82,24 +76,18 @@ fn next<Rt: Threads + Wait + Sync>(
 }
 
 #[test]
-fn the_run_behind_a_stop_before_is_stopped(rt: HostRuntime) -> Result<(), Fail> {
-    let wrong = next(&rt, rt.alloc(), Cut::Before, Cut::Spoilt)?;
-    assert_eq!(rt; wrong.as_str(), "");
-    Ok(())
+fn the_run_behind_a_stop_before_is_stopped(rt: HostRuntime) {
+    assert_none_wrong(&rt, next(&rt, rt.alloc(), Cut::Before, Cut::Spoilt));
 }
 
 #[test]
-fn the_run_behind_a_stop_after_is_stopped(rt: HostRuntime) -> Result<(), Fail> {
-    let wrong = next(&rt, rt.alloc(), Cut::After, Cut::Before)?;
-    assert_eq!(rt; wrong.as_str(), "");
-    Ok(())
+fn the_run_behind_a_stop_after_is_stopped(rt: HostRuntime) {
+    assert_none_wrong(&rt, next(&rt, rt.alloc(), Cut::After, Cut::Before));
 }
 
 #[test]
-fn the_run_behind_a_spoilt_page_is_stopped(rt: HostRuntime) -> Result<(), Fail> {
-    let wrong = next(&rt, rt.alloc(), Cut::Spoilt, Cut::After)?;
-    assert_eq!(rt; wrong.as_str(), "");
-    Ok(())
+fn the_run_behind_a_spoilt_page_is_stopped(rt: HostRuntime) {
+    assert_none_wrong(&rt, next(&rt, rt.alloc(), Cut::Spoilt, Cut::After));
 }
 
 /// More programs than a run of the other file makes.
@@ -154,17 +142,13 @@ fn commit<Rt: Threads + Wait + Sync>(
 }
 
 #[test]
-fn each_program_behind_a_commit_is_stopped(rt: HostRuntime) -> Result<(), Fail> {
-    let wrong = commit(&rt, rt.alloc(), NOT_HOME)?;
-    assert_eq!(rt; wrong.as_str(), "");
-    Ok(())
+fn each_program_behind_a_commit_is_stopped(rt: HostRuntime) {
+    assert_none_wrong(&rt, commit(&rt, rt.alloc(), NOT_HOME));
 }
 
 #[test]
-fn each_program_behind_a_spoilt_commit_is_stopped(rt: HostRuntime) -> Result<(), Fail> {
-    let wrong = commit(&rt, rt.alloc(), NOT_COMMITTED)?;
-    assert_eq!(rt; wrong.as_str(), "");
-    Ok(())
+fn each_program_behind_a_spoilt_commit_is_stopped(rt: HostRuntime) {
+    assert_none_wrong(&rt, commit(&rt, rt.alloc(), NOT_COMMITTED));
 }
 
 fn whole_right<Rt: Threads + Wait + Sync>(rig: &mut Rig<'_, Rt>) -> Result<bool, Memory> {
@@ -186,10 +170,8 @@ fn whole<Rt: Threads + Wait + Sync>(rt: &Rt, alloc: Global) -> Result<String, Me
 }
 
 #[test]
-fn no_program_is_left(rt: HostRuntime) -> Result<(), Fail> {
-    let wrong = whole(&rt, rt.alloc())?;
-    assert_eq!(rt; wrong.as_str(), "");
-    Ok(())
+fn no_program_is_left(rt: HostRuntime) {
+    assert_none_wrong(&rt, whole(&rt, rt.alloc()));
 }
 
 // The sixth program is the commit page: it comes behind a page of the file, the header, and the images of the super page, the nodes and the
@@ -232,8 +214,6 @@ fn commit_page<Rt: Threads + Wait + Sync>(rt: &Rt, alloc: Global) -> Result<Stri
 }
 
 #[test]
-fn a_commit_page_is_stopped(rt: HostRuntime) -> Result<(), Fail> {
-    let wrong = commit_page(&rt, rt.alloc())?;
-    assert_eq!(rt; wrong.as_str(), "");
-    Ok(())
+fn a_commit_page_is_stopped(rt: HostRuntime) {
+    assert_none_wrong(&rt, commit_page(&rt, rt.alloc()));
 }

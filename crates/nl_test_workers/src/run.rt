@@ -1,7 +1,7 @@
 ghost use Rattle.std.specs.Prelude.{◌≡◌, ◌+◌, false, IfSome};
 ghost use Rattle.nl_workers.specs.Rounds.{IsFirstSeat};
 
-use nl_test_turns::FailingVolume;
+use crate::failing::FailingVolume;
 use nl_tree::Lines;
 use nl_turns::{TurnSeat, Turns};
 use nl_workers::{AnswerTable, DutyKit, Gate, run_rounds};

@@ -42,10 +42,10 @@ pub const SAVED: &str = "opened 0
 14 @13 ok dir 1
 ";
 
-/// How many programs the run makes: 1 for the bytes of the note, 12 for the first sync, 1 for the new bytes, 8 for each of the other syncs,
-/// and 4 for the closing. A commit of n pages is a header, n images, the commit page, and n pages that are copied home: those of the first
-/// are the super page, the nodes and three directories, those of the others the super page, the nodes and one directory, and that of the
-/// last the super page.
+/// How many programs the run makes: 1 for the bytes of the note, 7 for the first sync, 1 for the new bytes, 10 and 8 for the other syncs, and
+/// 7 for the closing. A sync copies the pages of the last transaction home, and then writes a header, the images of its own, and the commit
+/// page; the closing copies its own home too. The first transaction has 5 pages, the super page, the nodes and three directories, those of
+/// the other syncs have 3, the super page, the nodes and one directory, and the last has the super page.
 pub const PROGRAMS: u64 = 34;
 
 /// After how many calls the volume opens, once so many programs of the run are finished: commit pages are the programs 8, 19, 27 and 33.

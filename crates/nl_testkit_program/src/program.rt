@@ -51,8 +51,8 @@ impl Told {
     }
 }
 
-/// The room of a sink.
-const ROOM: u32 = 1_000_000;
+/// The room of a sink, in bytes. No command of a test or of a trial prints as much.
+const ROOM: u32 = 32_000_000;
 
 /// The call of this number fails, where it is not 0.
 pub fn only(alloc: Global, number: u64) -> Result<FailList, Memory> {

@@ -7,5 +7,5 @@ count : length (no_pages 103).running ≡ 103
 unfolding no_pages
 count = length-replicate {A = Option (List ℕ)} 103 None
 
-pub differs-requires : goal.differs-requires
-differs-requires c = ap (λ (p : Pages). length p.running) c.in_ok-meta.ensures ∙ count
+pub differs-row-requires : goal.differs-row-requires
+differs-row-requires c = ap (λ (p : Pages). length p.running) c.in_ok-meta.ensures ∙ count

@@ -1,5 +1,5 @@
 use Rattle.nl_turns.specs.History.{with_lines}
-use Rattle.nl_test_turns.specs.Failing.{failing_opening}
+use Rattle.nl_test_workers.specs.Failing.{failing_opening}
 use Rattle.nl_test_workers.proofs.run.open_lock.Given as goal
 
 abbrev pub ghosts-new : goal.ghosts-new
