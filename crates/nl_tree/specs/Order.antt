@@ -14,7 +14,7 @@ pub record IsOrderOf (lines answered : List Line) : Type 0 where
   pub each_once : IsPermutation lines answered
   pub in_order : AllPairs (λ a b. IsFalse (has_to_precede b a)) answered
 
--- a sync that was answered ok: how many calls it made safe, and the clock of the medium then
+-- a sync that was answered ok: how many calls it made safe, and the moment of the last commit page then
 pub record SyncPoint : Type 0 where
   pub upto : ℕ
   pub moment : ℕ

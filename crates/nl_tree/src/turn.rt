@@ -4,9 +4,9 @@ use crate::Reply;
 /// What one staging did.
 #[derive(Clone, Copy, Debug, PartialEq, Eq)]
 pub enum Stage {
-    /// One whole page of the line is programmed and in flight.
+    /// One whole page of the line is programmed and in flight, or one unit of a sync is done.
     Staged,
-    /// No whole page of the line is left to stage.
+    /// No whole page of the line is left to stage, and no unit of a sync.
     Whole,
     /// The volume is read-only or worn.
     Stopped,
