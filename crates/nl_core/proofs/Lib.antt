@@ -1,5 +1,6 @@
 pub mod Begun
 pub mod Cleaned
+pub mod Counted
 pub mod Counts
 pub mod Decided
 pub mod Dropped

@@ -1,6 +1,6 @@
 -- What the calls of a core do beside what all of them keep.
-use Rattle.std.specs.Prelude.{◌≡◌, ◌≢◌, ◌⊎◌, ℕ, ◌≤◌, [], map, None}
-use Rattle.nl_field.specs.CrashStates.{Earlier, Rose}
+use Rattle.std.specs.Prelude.{◌≡◌, ◌≢◌, ◌⊎◌, ℕ, ◌+◌, ◌≤◌, [], map, None}
+use Rattle.nl_field.specs.CrashStates.{Earlier, Rose, saturated}
 use Rattle.nl_core_callbacks.specs.Handled.{nameless_line}
 use Rattle.nl_iface.specs.Names.{Has, Names}
 use Rattle.nl_iface.specs.Rounds.{Empties}
@@ -11,6 +11,10 @@ use Rattle.nl_journal.specs.declared.answers.Committing.{Committing}
 use Rattle.nl_journal.specs.declared.answers.Committing.TheVariants as commits
 use Rattle.nl_core.specs.Core.{begun_of, names_of}
 use Rattle.nl_core.specs.declared.state.Core.{Core}
+
+-- the core with one call more
+abbrev pub counted : {D : Type 0} → Core D → Core D
+counted v = record v { count = saturated (v.count + 1) }
 
 -- a count of failures rose where the call failed
 abbrev pub FailureIsCounted : {D : Type 0} → Ghosts D → Type 0 → Core D → Core D → Type 0

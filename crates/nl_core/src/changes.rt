@@ -1,7 +1,7 @@
 // What calls on files change of a core beside its pages: the count of calls, the line of a worker, and the pointers that await their free.
-ghost use Rattle.std.specs.Prelude.{◌≡◌, ◌+◌, ◌<◌, ◌≤◌, length};
-ghost use Rattle.nl_field.specs.CrashStates.{saturated};
+ghost use Rattle.std.specs.Prelude.{◌≡◌, ◌<◌, ◌≤◌, length};
 ghost use Rattle.nl_flight.specs.Flight.{IsFlight, begun, with_line};
+ghost use Rattle.nl_core.specs.Calls.{counted};
 ghost use Rattle.nl_core.specs.Lines.{Withdraws, notes_fault};
 ghost use Rattle.nl_core.specs.Programming.{line_of};
 
@@ -12,7 +12,7 @@ use nl_iface::MovingPages;
 impl<D: MovingPages> Core<D> {
     /// Counts one call more. The count stands at its type's end.
     pub fn count_call(&mut self)
-        ensures { self.new ≡ record self.old { count = saturated (self.old.count + 1) } }
+        ensures { self.new ≡ counted self.old }
     {
         self.count = self.count.saturating_add(1);
     }

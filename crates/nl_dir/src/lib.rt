@@ -8,4 +8,4 @@ mod look;
 mod page;
 
 pub use change::{insert, remove};
-pub use look::{entry_at, find};
+pub use look::{entry_at, find, name_at};

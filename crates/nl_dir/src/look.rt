@@ -1,12 +1,13 @@
 //! Entries of a directory are found by name and by place.
 ghost use Rattle.std.specs.Prelude.{◌≡◌, ◌<◌, ◌≤◌, IsTrue, MatchOption, Some, slice_get};
 ghost use Rattle.nl_field.specs.Inode.{is_inode};
+ghost use Rattle.nl_field.specs.declared.entry.EntryRec.{EntryRec as Entry};
 ghost use Rattle.nl_meta.specs.Nodes.{address_of_place, entries_of_inode, entry_named};
 ghost use Rattle.nl_meta.specs.Pages.{page_of};
 ghost use Rattle.nl_dir.specs.Directory.{HasPlaces, IsDirectory};
 ghost use Rattle.nl_dir.specs.Looking.{IsNamedAt, NoneNamed};
 
-use crate::page::{entry_in, has_name};
+use crate::page::{entry_in, slot_name, slot_named};
 use nl_field::{EntryRec, InodeRec, Kind, PageBuf};
 use nl_meta::Meta;
 
@@ -30,15 +31,26 @@ pub fn entry_at(rec: &InodeRec, meta: &Meta, place: u32) -> EntryRec
     entry_in(page_at(rec, meta, place), place % 64)
 }
 
-// The place of a name.
+/// The name of the entry at a place, counted from 0, as its page has it.
+pub fn name_at<'a>(rec: &InodeRec, meta: &'a Meta, place: u32) -> &'a [u8]
+    requires directory { IsDirectory (page_of meta.now) rec.now }
+    requires below { place < rec.now.size }
+    ensures { (entry : Entry) × (slice_get (entries_of_inode (page_of meta.now) rec.now) place ≡ Some entry) × (result.now ≡ entry.name) }
+{
+    slot_name(page_at(rec, meta, place), place % 64)
+}
+
+// The place of a name. Each page is looked up once.
 pub(crate) fn place_of(rec: &InodeRec, meta: &Meta, name: &[u8]) -> Option<u32>
     requires { IsDirectory (page_of meta.now) rec.now }
     ensures { MatchOption result (NoneNamed (page_of meta.now) rec.now rec.now.size name.now)
         (IsNamedAt (page_of meta.now) rec.now name.now) }
 {
-    for place in 0..count(rec) {
-        if has_name(page_at(rec, meta, place), place % 64, name) {
-            return Some(place);
+    let count = count(rec);
+    for row in 0..count.div_ceil(64) {
+        let first = 64 * row;
+        if let Some(slot) = slot_named(page_at(rec, meta, first), (count - first).min(64), name) {
+            return Some(first + slot);
         }
     }
     None

@@ -1,5 +1,5 @@
 //! One page of 64 entries: its slots are read and compared.
-ghost use Rattle.std.specs.Prelude.{◌≡◌, ◌<◌, ◌≤◌, ◌+◌, ◌*◌, IsSome, Some, true, if◌then◌else◌, length, bytes_eq, unwrap_or, []};
+ghost use Rattle.std.specs.Prelude.{◌≡◌, ◌<◌, ◌≤◌, ◌+◌, ◌*◌, ℕ, IfSome, IfNone, IsSome, Some, true, false, if◌then◌else◌, length, bytes_eq, unwrap_or, []};
 ghost use Rattle.nl_field.specs.Bytes.{zeros};
 ghost use Rattle.nl_field.specs.EntryRecord.{entry_bytes, entry_fields, entry_of};
 ghost use Rattle.nl_meta.specs.Nodes.{slot_in};
@@ -22,13 +22,29 @@ pub(crate) fn entry_in(page: &PageBuf, slot: u32) -> EntryRec
     }
 }
 
-// Whether the entry in a slot has the name.
-pub(crate) fn has_name(page: &PageBuf, slot: u32, name: &[u8]) -> bool
+// The first of so many slots from the front whose entry has the name.
+pub(crate) fn slot_named(page: &PageBuf, count: u32, name: &[u8]) -> Option<u32>
+    requires { count ≤ 64 }
+    ensures below { IfSome result (λ slot. slot < count) }
+    ensures some { IfSome result (λ slot. bytes_eq (entry_fields (slot_in 64 slot page.now.main)).name name.now ≡ true) }
+    ensures none { IfNone result ((slot : ℕ) → slot < count
+        → bytes_eq (entry_fields (slot_in 64 slot page.now.main)).name name.now ≡ false) }
+{
+    for slot in 0..count {
+        if slot_name(page, slot) == name {
+            return Some(slot);
+        }
+    }
+    None
+}
+
+// The name that the entry in a slot has.
+pub(crate) fn slot_name(page: &PageBuf, slot: u32) -> &[u8]
     requires { slot < 64 }
-    ensures { result ≡ bytes_eq (entry_fields (slot_in 64 slot page.now.main)).name name.now }
+    ensures { result.now ≡ (entry_fields (slot_in 64 slot page.now.main)).name }
 {
     let at = 64 * slot as usize;
-    name_in(&page.main()[at..at + 64]) == name
+    name_in(&page.main()[at..at + 64])
 }
 
 // The name that 64 bytes of an entry have.

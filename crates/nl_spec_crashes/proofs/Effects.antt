@@ -15,7 +15,8 @@ use Rattle.nl_core.specs.Trees.{CoreRepresentsTree, CoreRepresents, CoreIsObserv
 use Rattle.nl_core.specs.declared.state.Core.{Core}
 use Rattle.nl_calls_steps.specs.Steps.{Steps}
 use Rattle.nl_calls_steps.proofs.Stepping.{steps_go, steps_run}
-use Rattle.nl_spec_crashes.specs.Effects.{StepTakesEffect, counted}
+use Rattle.nl_core.specs.Calls.{counted}
+use Rattle.nl_spec_crashes.specs.Effects.{StepTakesEffect}
 
 module _ {D : Type 0} (g : Ghosts D) (old new : Core D) (x : Call × Option FaultReply) (volume : IsVolumeShape (g.shape old.device)) (core : IsCore g old) (step : Steps g old new) where
   same_count : new.count ≡ old.count

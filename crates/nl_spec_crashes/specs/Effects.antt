@@ -1,19 +1,15 @@
 -- When a step of a file call is the effect of a call.
-use Rattle.std.specs.Prelude.{◌+◌, Option}
-use Rattle.nl_field.specs.CrashStates.{saturated}
+use Rattle.std.specs.Prelude.{Option}
 use Rattle.nl_tree.specs.declared.call.Call.{Call}
 use Rattle.nl_tree.specs.declared.reply.FaultReply.{FaultReply}
 use Rattle.nl_iface.specs.Device.{IsVolumeShape}
 use Rattle.nl_iface.specs.declared.counts.Counts.{Ghosts}
+use Rattle.nl_core.specs.Calls.{counted}
 use Rattle.nl_core.specs.Core.{IsCore}
 use Rattle.nl_core.specs.declared.state.Core.{Core}
 use Rattle.nl_calls_steps.specs.Steps.{Steps}
 use Rattle.nl_calls_steps.specs.Calls.{MakesTree}
 use Rattle.nl_spec_crashes.specs.Laws.{TakesEffect}
-
--- the core with one call more
-abbrev pub counted : {D : Type 0} → Core D → Core D
-counted v = record v { count = saturated (v.count + 1) }
 
 -- A step whose pages stand for that tree, and that is counted, is the effect of the call.
 abbrev pub StepTakesEffect : {D : Type 0} → Ghosts D → Type 0

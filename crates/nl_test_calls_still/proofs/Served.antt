@@ -1,7 +1,6 @@
 -- A core after a line of its one worker.
 use Rattle.std.proofs.Common.{◌≡◌, ◌≢◌, ◌⊎◌, inl, inr, ℕ, zero, suc, ◌+◌, ◌≤◌, List, length, replicate, Option, refl, sym, ap, ◌∙◌, arith}
 use Rattle.std.proofs.lemmas.Bool.{cases_eq}
-use Rattle.nl_field.specs.CrashStates.{saturated}
 use Rattle.nl_tree.specs.Causes.{fault_in}
 use Rattle.nl_tree.specs.Replay.{step_marked}
 use Rattle.nl_tree.specs.Tree.{Tree, empty_tree}
@@ -10,6 +9,8 @@ use Rattle.nl_tree.specs.declared.reply.Reply.{Reply}
 use Rattle.nl_flight.specs.Flight.{InFlight, begun, of_worker}
 use Rattle.nl_iface.specs.declared.counts.Counts.{Ghosts}
 use Rattle.nl_meta.specs.Consistent.{PageOfStamp}
+use Rattle.nl_core.specs.Calls.{counted}
+use Rattle.nl_core.proofs.Counted.{counted_core}
 use Rattle.nl_core.specs.Core.{IsCore}
 use Rattle.nl_core.specs.Goes.{PreservesTree}
 use Rattle.nl_core.specs.declared.state.Core.{Core}
@@ -41,32 +42,7 @@ serves_new g v core new = record {
 
 -- ---- with one call more
 
-abbrev pub counted : {D : Type 0} → Core D → Core D
-counted v = record v { count = saturated (v.count + 1) }
-
 module _ {D : Type 0} (g : Ghosts D) (v : Core D) where
-  -- the count is no part of what a core is
-  counted_core : IsCore g v → IsCore g (counted v)
-  counted_core c = record {
-    formed = c.formed;
-    shape = c.shape;
-    journaled = c.journaled;
-    free = record { count_nodes = c.free.count_nodes; count_pool = c.free.count_pool; nodes = c.free.nodes; pool = c.free.pool };
-    held = c.held;
-    counts =
-        let k = c.counts in
-        let latest = k.latest in
-        let few = k.few in
-        record { later = k.later; latest = omega (arith, latest, few); few = omega arith; shut = k.shut };
-    flight = c.flight;
-    named = c.named;
-    stamped = c.stamped;
-    space = record { counted = c.space.counted; few = c.space.few; all = c.space.all; room = c.space.room };
-    marked = c.marked;
-    moment = c.moment;
-    writes = λ none. let w = c.writes none in record { spare = w.spare; lands = w.lands; firm = w.firm; counts = w.counts };
-  }
-
   counted_tree : (page_of_stamp : ℕ → Option PageOfStamp) (tree : Tree) → PreservesTree g v page_of_stamp tree → PreservesTree g (counted v) page_of_stamp tree
   counted_tree page_of_stamp tree k = record { pages = k.pages; extends = k.extends; runs = record { runs = k.runs.runs; shows = k.runs.shows; given = k.runs.given } }
 

@@ -56,11 +56,12 @@ pub fn coldest(blocks: &Blocks) -> Option<u32>
 {
     let first = blocks.first();
     let mut best = None;
+    let mut most = first;
     for i in 0..blocks.count() {
         best = colder(blocks, best, first + i);
+        most = worn(blocks, most, first + i);
     }
     let least = best?;
-    let most = most_worn(blocks, least);
     if blocks.wear(most) - blocks.wear(least) < 16 {
         return None;
     }
@@ -86,27 +87,13 @@ fn colder(blocks: &Blocks, best: Option<u32>, block: u32) -> Option<u32>
     }
 }
 
-/// A block of the greatest wear, in a table that has this one.
-fn most_worn(blocks: &Blocks, some: u32) -> u32
-    requires has { HasBlock blocks.now some }
-    ensures has { HasBlock blocks.now result }
-    ensures most { (block : ℕ) → HasBlock blocks.now block → wear_of (block_at blocks.now block) ≤ wear_of (block_at blocks.now result) }
-{
-    let first = blocks.first();
-    let mut most = some;
-    for i in 0..blocks.count() {
-        most = worn(blocks, most, first + i);
-    }
-    most
-}
-
-/// The one of two blocks that has more wear.
+/// The one of two blocks that has more wear. The first may be none of the table where the other is the first of all.
 fn worn(blocks: &Blocks, most: u32, block: u32) -> u32
     requires has { HasBlock blocks.now block }
-    requires so_far { WornBelow blocks.now block most }
+    requires so_far { blocks.now.first < block → WornBelow blocks.now block most }
     ensures { WornBelow blocks.now (block + 1) result }
 {
-    if blocks.wear(most) < blocks.wear(block) {
+    if block == blocks.first() || blocks.wear(most) < blocks.wear(block) {
         block
     } else {
         most

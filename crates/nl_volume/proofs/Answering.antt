@@ -22,7 +22,7 @@ use Rattle.nl_core.proofs.Counts.{onward_as, onward_then}
 use Rattle.nl_core.specs.Units.{goal_of, goal_or}
 use Rattle.nl_calls_steps.proofs.Stepping.{steps_run}
 use Rattle.nl_calls_steps.specs.Calls.{MakesTree, counts_of}
-use Rattle.nl_spec_crashes.specs.Effects.{counted}
+use Rattle.nl_core.specs.Calls.{counted}
 use Rattle.nl_turns.specs.History.{Opening, call_at, fault_of, is_effect, is_sync, opening_counts}
 use Rattle.nl_turns.specs.Served.{IsLineOf, effect_entry, fault_mark, sync_mark}
 use Rattle.nl_turns.specs.declared.entry.Entry.{Entry}

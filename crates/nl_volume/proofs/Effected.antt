@@ -14,7 +14,7 @@ use Rattle.nl_iface.specs.Device.{IsVolumeShape}
 use Rattle.nl_iface.specs.declared.counts.Counts.{Ghosts}
 use Rattle.nl_core.specs.Core.{IsCore}
 use Rattle.nl_core.specs.declared.state.Core.{Core}
-use Rattle.nl_spec_crashes.specs.Effects.{counted}
+use Rattle.nl_core.specs.Calls.{counted}
 use Rattle.nl_turns.specs.History.{Opening, tree_after}
 use Rattle.nl_turns.specs.Served.{IsLineOf, StaysReadOnly, effect_entry, ordinal_due, outcome_due, place_due}
 use Rattle.nl_turns.specs.declared.entry.Entry.{Entry}

@@ -7,7 +7,7 @@ use Rattle.nl_tree.specs.declared.call.Call.{Call}
 use Rattle.nl_iface.specs.declared.counts.Counts.{Ghosts}
 use Rattle.nl_core.specs.LastCommit.{KeepsCommit, LeavesMedium}
 use Rattle.nl_core.specs.declared.state.Core.{Core}
-use Rattle.nl_spec_crashes.specs.Effects.{counted}
+use Rattle.nl_core.specs.Calls.{counted}
 use Rattle.nl_volume_stage.specs.Serving.{refusing_of}
 use Rattle.nl_volume_stage.proofs.Due.{tried_may}
 use Rattle.nl_volume_stage.proofs.Serving.{none_is}

@@ -11,7 +11,7 @@ use Rattle.nl_core.specs.declared.state.Core.{Core}
 use Rattle.nl_calls.specs.Answering.{AnswersOn, RunsReclaimPass, EndsLine, HasEffectOf, IsReachedSync, is_sync_call, is_synced, pages_of_files}
 use Rattle.nl_calls_steps.specs.Calls.{counts_of}
 use Rattle.nl_volume_stage.specs.Serving.{refusing_of}
-use Rattle.nl_spec_crashes.specs.Effects.{counted}
+use Rattle.nl_core.specs.Calls.{counted}
 
 -- A line was refused before it was tried, or tried: its reply is the one that is due, it had its effect, and a fault has its cause. Exactly
 -- a sync without a fault has the numbers of one. The worker has no line afterwards, and files have so many pages.

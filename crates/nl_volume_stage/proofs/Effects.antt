@@ -28,7 +28,8 @@ use Rattle.nl_core.specs.declared.state.Core.{Core}
 use Rattle.nl_calls_steps.specs.Steps.{Steps}
 use Rattle.nl_spec_crashes.specs.Along.{FollowsRun}
 use Rattle.nl_calls_steps.specs.Calls.{MakesTree, counts_of}
-use Rattle.nl_spec_crashes.specs.Effects.{counted}
+use Rattle.nl_core.specs.Calls.{counted}
+use Rattle.nl_core.proofs.Counted.{counted_core}
 use Rattle.nl_spec_crashes.proofs.Along.{effect_goes_along, sync_goes_along}
 use Rattle.nl_spec_crashes.proofs.Effects.{step_takes_effect}
 use Rattle.nl_turns.specs.History.{IsKnown, IsSyncInRange, Opening, begun_at, call_at, call_of, effects, fault_of, is_effect, is_sync, marked_calls, opening_counts, sync_of, syncs_of}
@@ -40,30 +41,6 @@ use Rattle.nl_volume_stage.proofs.Causes.{later_then, still_cause, still_failed}
 use Rattle.nl_volume_stage.specs.Turns.{PreservesCore}
 use Rattle.nl_volume_stage.proofs.Histories.{begun_is, calls_length, calls_more, effects_more, effects_within, has_or_last, last_in_range, no_sync, one_call, one_sync, pairs_more, syncs_in_range, syncs_more}
 use Rattle.nl_volume_stage.proofs.Standing.{calls_serve}
-
--- ---- the count is no part of what a core is
-
-module _ {D : Type 0} (g : Ghosts D) (v : Core D) (c : IsCore g v) where
-  pub counted_core : IsCore g (counted v)
-  counted_core = record {
-    formed = c.formed;
-    shape = c.shape;
-    journaled = c.journaled;
-    free = record { count_nodes = c.free.count_nodes; count_pool = c.free.count_pool; nodes = c.free.nodes; pool = c.free.pool };
-    held = c.held;
-    counts =
-        let k = c.counts in
-        let latest = k.latest in
-        let few = k.few in
-        record { later = k.later; latest = omega (arith, latest, few); few = omega arith; shut = k.shut };
-    flight = c.flight;
-    named = c.named;
-    stamped = c.stamped;
-    space = record { counted = c.space.counted; few = c.space.few; all = c.space.all; room = c.space.room };
-    marked = c.marked;
-    moment = c.moment;
-    writes = λ none. let w = c.writes none in record { spare = w.spare; lands = w.lands; firm = w.firm; counts = w.counts };
-  }
 
 -- ---- no step, and no change of the tree
 

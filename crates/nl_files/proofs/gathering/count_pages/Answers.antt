@@ -1,41 +1,57 @@
-use Rattle.std.proofs.Common.{◌+◌, ◌∙◌, sym, ap, length, arith, refl}
+use Rattle.std.proofs.Common.{◌≡◌, ◌+◌, ◌-◌, ◌*◌, ◌∙◌, sym, ap, length, arith, refl}
+use Rattle.std.proofs.lemmas.List.{length-append}
+use Rattle.nl_files.specs.Spans.{pointers_of_span}
 use Rattle.nl_files.specs.Standing.{running_map}
-use Rattle.nl_files.proofs.Keeping.{keeps-then, pointer-then, stands-then}
-use Rattle.nl_indirect.specs.Ranges.{some_pointer}
+use Rattle.nl_files.proofs.Keeping.{keeps-then, stands-then}
 use Rattle.nl_files.proofs.Owning.{own-none, own-then}
-use Rattle.nl_files.proofs.Progress.{at-most-one, at-not-fault, counted-more, read-none, read-then, span-none}
+use Rattle.nl_files.proofs.Progress.{pages-not-fault, read-none, read-then, span-joins, span-most, span-none, span-on}
 use Rattle.nl_files.proofs.gathering.count_pages.Goals as goal
 
-pub look-requires-clause-stands : goal.look-requires-clause-stands
-look-requires-clause-stands g c =
-    let is = c.loop-index.invariant.0 in
-    stands-then g.D.Counts c.args.device.now c.loop-index.device c.args.rec.now c.args.meta.now c.loop-index.meta is.reads is.keeps c.requires.stands
+pub count_range-requires-clause-stands : goal.count_range-requires-clause-stands
+count_range-requires-clause-stands g c =
+    let is = c.loop-range.invariant.0 in
+    stands-then g.D.Counts c.args.device.now c.loop-range.device c.args.rec.now c.args.meta.now c.loop-range.meta is.reads is.keeps c.requires.stands
 
-pub returns-in-Fault-clause-pages : goal.returns-in-Fault-clause-pages
-returns-in-Fault-clause-pages g c =
-    let is = c.loop-index.invariant.0 in
-    keeps-then g.D.Counts c.args.device.now c.loop-index.device c.args.meta.now c.loop-index.meta c.look.new.meta is.reads is.keeps c.look.ensures.pages
+pub loop-range-init : goal.loop-range-init
+loop-range-init g c =
+    (read-none g.D.Counts c.args.device.now c.args.meta.now c.requires.formed c.requires.stands.clean, sym (ap length (span-none (running_map g.D.Counts c.args.device.now c.args.meta.now) c.args.rec.now 0 (256 * 0 - 248) refl)), omega arith, own-none c.args.rec.now c.args.meta.now)
 
-pub loop-index-init : goal.loop-index-init
-loop-index-init g c =
-    (read-none g.D.Counts c.args.device.now c.args.meta.now c.requires.formed c.requires.stands.clean, sym (ap length (span-none (running_map g.D.Counts c.args.device.now c.args.meta.now) c.args.rec.now 0 0 refl)), omega arith, own-none c.args.rec.now c.args.meta.now)
-
-pub loop-index-preserved : goal.loop-index-preserved
-loop-index-preserved g c =
+pub loop-range-preserved : goal.loop-range-preserved
+loop-range-preserved g c =
     let d = g.D.Counts in
-    let is = c.loop-index.invariant in
-    let looked = c.in-At.ensures in
+    let is = c.loop-range.invariant in
+    let one = c.in-Pages.ensures in
     let old = running_map d c.args.device.now c.args.meta.now in
-    let pointer = pointer-then d c.args.device.now c.loop-index.device c.args.rec.now c.args.meta.now c.loop-index.meta is.0.reads is.0.keeps c.requires.stands c.loop-index.index in
-    let one = c.one_where-count.ensures in (
-      read-then d c.args.device.now c.loop-index.device c.look.new.device c.args.meta.now c.loop-index.meta c.look.new.meta is.0 looked.formed looked.kept (looked.faults.stays tt (λ e. at-not-fault c.in-At.found e)) looked.pages,
-      ap (λ n. c.loop-index.count + n) one ∙ counted-more old c.args.rec.now c.loop-index.count c.loop-index.index c.in-At.found is.1 (looked.at ∙ ap some_pointer pointer),
-      (let most = at-most-one c.in-At.found in let count = is.2 in omega (arith, most, one, count)),
-      own-then c.args.rec.now c.args.meta.now c.loop-index.meta c.look.new.meta is.3 c.look.ensures.only,
+    let now = running_map d c.loop-range.device c.loop-range.meta in
+    let first = c.start.ensures in
+    let behind = c.end.ensures in
+    let at : 0 + (256 * c.loop-range.range - 248) ≡ c.start.result = omega (arith, first) in
+    let next : 256 * c.loop-range.range - 248 + (c.end.result - c.start.result) ≡ 256 * (c.loop-range.range + 1) - 248 = omega (arith, first, behind) in
+    let same = span-on d c.args.device.now c.loop-range.device c.args.rec.now c.args.meta.now c.loop-range.meta is.0.reads is.0.keeps c.requires.stands c.start.result (c.end.result - c.start.result) in
+    let joined = ap length (span-joins old c.args.rec.now 0 (256 * c.loop-range.range - 248) c.start.result (c.end.result - c.start.result) at) ∙ length-append (pointers_of_span old c.args.rec.now 0 (256 * c.loop-range.range - 248)) (pointers_of_span old c.args.rec.now c.start.result (c.end.result - c.start.result)) in
+    let whole = ap (λ n. length (pointers_of_span old c.args.rec.now 0 n)) next in
+    let more = one.count ∙ ap length same in
+    let before = is.1 in (
+      read-then d c.args.device.now c.loop-range.device c.count_range.new.device c.args.meta.now c.loop-range.meta c.count_range.new.meta is.0 one.formed one.kept (one.faults.stays tt (λ e. pages-not-fault c.in-Pages.more e)) one.pages,
+      omega (arith, before, more, joined, whole),
+      (let most = span-most now c.args.rec.now c.start.result (c.end.result - c.start.result) in let count = is.2 in let found = one.count in omega (arith, most, count, found, first, behind)),
+      own-then c.args.rec.now c.args.meta.now c.loop-range.meta c.count_range.new.meta is.3 one.only,
     )
 
-pub returns-in-Fault-clause-only : goal.returns-in-Fault-clause-only
-returns-in-Fault-clause-only g c = own-then c.args.rec.now c.args.meta.now c.loop-index.meta c.look.new.meta c.loop-index.invariant.3 c.look.ensures.only
+pub returns-in_default-clause-pages : goal.returns-in_default-clause-pages
+returns-in_default-clause-pages g c =
+    let is = c.loop-range.invariant.0 in
+    keeps-then g.D.Counts c.args.device.now c.loop-range.device c.args.meta.now c.loop-range.meta c.count_range.new.meta is.reads is.keeps c.count_range.ensures.pages
 
-pub returns-in-Lost-clause-only : goal.returns-in-Lost-clause-only
-returns-in-Lost-clause-only g c = own-then c.args.rec.now c.args.meta.now c.loop-index.meta c.look.new.meta c.loop-index.invariant.3 c.look.ensures.only
+pub returns-in_default-clause-only : goal.returns-in_default-clause-only
+returns-in_default-clause-only g c = own-then c.args.rec.now c.args.meta.now c.loop-range.meta c.count_range.new.meta c.loop-range.invariant.3 c.count_range.ensures.only
+
+pub overflow_add-count : goal.overflow_add-count
+overflow_add-count g c =
+    let count = c.loop-range.invariant.2 in
+    let found = c.in-Pages.ensures.count in
+    let first = c.start.ensures in
+    let behind = c.end.ensures in
+    let below = c.loop-range-test.true in
+    let most = span-most (running_map g.D.Counts c.loop-range.device c.loop-range.meta) c.args.rec.now c.start.result (c.end.result - c.start.result) in
+    omega (arith, count, found, first, behind, below, most)

@@ -1,12 +1,12 @@
-use Rattle.std.proofs.Common.{◌≡◌, ◌≤◌, ◌+◌, ◌-◌, ◌++◌, length}
+use Rattle.std.proofs.Common.{◌≡◌, ◌≤◌, ◌+◌, ◌*◌, ◌-◌, ◌++◌, length}
 use Rattle.nl_files.specs.Spans.{pointers_of_span}
 use Rattle.nl_files.specs.Standing.{LoadsOwn, running_map}
 use Rattle.nl_files.proofs.Progress.{HasRead}
 use Rattle.nl_files.proofs.gathering.gather.Given as goal
 
-abbrev pub invariant-loop-index : goal.invariant-loop-index
-invariant-loop-index g l =
+abbrev pub invariant-loop-range : goal.invariant-loop-range
+invariant-loop-range g l =
     HasRead g.D.Counts l.initial.device l.device l.initial.meta l.meta
-    × (l.freeing.items ≡ l.initial.freeing.items ++ pointers_of_span (running_map g.D.Counts l.initial.device l.initial.meta) l.rec l.from (l.index - l.from))
+    × (l.freeing.items ≡ l.initial.freeing.items ++ pointers_of_span (running_map g.D.Counts l.initial.device l.initial.meta) l.rec l.from (256 * l.range - (248 + l.from)))
     × (length l.initial.freeing.items + l.initial.freeing.room ≤ length l.freeing.items + l.freeing.room)
     × LoadsOwn l.rec l.initial.meta l.meta

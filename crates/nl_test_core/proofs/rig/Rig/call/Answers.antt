@@ -1,4 +1,4 @@
-use Rattle.nl_test_core.proofs.Counted.{counted_is}
+use Rattle.nl_core.proofs.Counted.{counted_is}
 use Rattle.nl_test_core.proofs.rig.Rig.call.Goals as goal
 
 pub invariant_of-self : goal.invariant_of-self

@@ -4,7 +4,7 @@ use Rattle.nl_device.specs.declared.device.Device.{Device}
 use Rattle.nl_tree.specs.Causes.{FaultIsDue, NeverFall}
 use Rattle.nl_calls.specs.Answering.{EndsLine, pages_of_files}
 use Rattle.nl_core.specs.declared.state.Core.{Core}
-use Rattle.nl_spec_crashes.specs.Effects.{counted}
+use Rattle.nl_core.specs.Calls.{counted}
 use Rattle.nl_turns.specs.Served.{FaultHasCause, StaysReadOnly, effect_entry}
 use Rattle.nl_calls_steps.specs.Calls.{counts_of}
 use Rattle.nl_volume_stage.specs.Serving.{refusing_of, some_number, to_stage_of}

@@ -1,13 +1,9 @@
--- A core stays one where its count of calls rises.
-use Rattle.std.proofs.Common.{◌≡◌, ◌≤◌, ℕ, ◌+◌, arith, subst, sym}
-use Rattle.nl_field.specs.CrashStates.{saturated}
+-- A core stays one as its count of calls rises: the count is no part of what a core is.
+use Rattle.std.proofs.Common.{◌≡◌, ◌+◌, ◌≤◌, arith, subst, sym}
 use Rattle.nl_iface.specs.declared.counts.Counts.{Ghosts}
+use Rattle.nl_core.specs.Calls.{counted}
 use Rattle.nl_core.specs.Core.{IsCore}
 use Rattle.nl_core.specs.declared.state.Core.{Core}
-
--- one call more was counted
-abbrev pub counted : {D : Type 0} → Core D → Core D
-counted v = record v { count = saturated (v.count + 1) }
 
 pub counted_core : {D : Type 0} (g : Ghosts D) (v : Core D) → IsCore g v → IsCore g (counted v)
 counted_core g v c = record {
