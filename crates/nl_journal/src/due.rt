@@ -76,7 +76,13 @@ pub fn frozen_len(meta: &Meta) -> u32
     ensures count { result ≡ length meta.now.frozen.addresses }
     ensures most { result ≤ 64 }
 {
-    addresses(meta).len()
+    meta.stands();
+    for i in 0..64 {
+        if meta.frozen(i).is_none() {
+            return i;
+        }
+    }
+    64
 }
 
 fn addresses(meta: &Meta) -> AddressList
