@@ -7,6 +7,9 @@ use nl_field::Text;
 use nl_io::{Source, SourceAnswer};
 use std::alloc::Global;
 
+/// The most bytes of one read.
+const PIECE: usize = 65_536;
+
 /// What reading a source to its end gives.
 #[derive(Debug, Drop)]
 pub enum Input {
@@ -27,12 +30,12 @@ pub fn read_all<S: Source>(alloc: Global, src: &mut S, limit: usize) -> Input
     ensures cause { result ≡ Input.Failed → Rose (S.faults src.old) (S.faults src.new) }
 {
     let mut bytes = Vec::new(alloc);
-    let mut piece = [0u8; 4096];
+    let mut piece = [0u8; PIECE];
     'piece: loop {
         if bytes.len() > limit {
             return Input::TooLong;
         }
-        let most = (limit + 1 - bytes.len()).min(4096);
+        let most = (limit + 1 - bytes.len()).min(PIECE);
         match src.read(&mut piece[..most]) {
             SourceAnswer::Got(count) => {
                 if bytes.extend_from_slice(&piece[..count as usize]).is_err() {

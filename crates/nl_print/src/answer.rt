@@ -143,16 +143,19 @@ fn push_tail(line: &mut LineBuf, tail: Tail, bytes: &[u8]) -> bool
     }
 }
 
+/// The most bytes of one piece of hexadecimal.
+const PIECE: usize = 16384;
+
 // Writes the bytes in lower case hexadecimal, in pieces.
 fn write_hex<K: Sink>(sink: &mut K, bytes: &[u8]) -> SinkAnswer
     ensures text { WritesStream (K.taken sink.old) (K.taken sink.new) result (encode_lower bytes.now) }
     ensures never_falls { K.faults sink.old ≤ K.faults sink.new }
     ensures cause { result ≡ SinkAnswer.Failed → Rose (K.faults sink.old) (K.faults sink.new) }
 {
-    let mut digits = [0u8; 2048];
+    let mut digits = [0u8; 2 * PIECE];
     let mut rest = bytes;
     'pieces: while !rest.is_empty() {
-        let count = rest.len().min(1024);
+        let count = rest.len().min(PIECE);
         let (piece, after) = rest.split_at(count);
         let text = &mut digits[..2 * count];
         match hex::encode_to_slice(piece, text) {

@@ -125,7 +125,7 @@ fn what_fails_first_gives_the_status(rt: HostRuntime) {
 // A script whose bytes come by more than one read.
 fn script_of(alloc: Global) -> Result<String, Memory> {
     let mut script = String::from_str(alloc, "0 create /a\n")?;
-    for _ in 0..500 {
+    for _ in 0..7000 {
         script.push_str("# a line of 20 bytes\n")?;
     }
     Ok(script)
