@@ -1,5 +1,5 @@
 -- A directory whose pages were made resident.
-use Rattle.std.proofs.Common.{◌≡◌, ℕ, ◌<◌, ◌/◌, List, get_or, sym, ap, ◌∙◌, IsSome, Option, arith, bytes_eq}
+use Rattle.std.proofs.Common.{◌≡◌, ℕ, ◌*◌, ◌/◌, ◌<◌, List, get_or, is_some, sym, ap, subst, ◌∙◌, IsSome, Option, arith, bytes_eq}
 use Rattle.std.specs.Prelude.{find}
 use Rattle.std.specs.Int.{div_ceil}
 use Rattle.nl_field.specs.Numbers.{ShapeBounds}
@@ -29,6 +29,19 @@ module _ {D : Type 0} (g : Ghosts D) (s : D) (p : Pages) (t : D) (q : Pages) (bo
   unfolding entry_named
   named-held r name has =
       ap (λ (es : List EntryRec). find (λ e. bytes_eq e.name name) es) (has.entries ∙ (own (g.shape s) bounds (running_on g s p) (running_on g t q) on.needed n rec is dir).entries)
+
+  -- a directory that is in memory stays there
+  pub held-on : RunningIsRight g s p → HasEntries g s p p rec → HasEntries g t q q rec
+  held-on runs has = record { directory = then.directory; entries = then.entries ∙ sym (own (g.shape s) bounds (running_on g s p) (running_on g t q) on.needed n rec is dir).entries }
+    where
+      there : (k : ℕ) → k < div_ceil rec.size 64 → IsSome (page_of q (get_or rec.addresses k 0))
+      there k h =
+          let e : 64 * k / 64 ≡ k = omega arith in
+          let was = subst (λ (r : ℕ). IsSome (page_of p (get_or rec.addresses r 0))) e (has.directory.places.there (64 * k) (omega (arith, h))) in
+          ap is_some (on.stays (get_or rec.addresses k 0) was) ∙ was
+
+      then : HasEntries g s p q rec
+      then = entries-held runs there
 
   -- they are those that it had before
   pub has-before : (r : Pages) → HasEntries g t q r rec → HasEntries g s p r rec

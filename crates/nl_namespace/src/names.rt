@@ -2,6 +2,7 @@
 ghost use Rattle.std.specs.Prelude.{◌≡◌, ◌<◌, ◌≤◌, ◌+◌, ◌++◌, ◌∷◌, [], ℕ, IfOk, length};
 ghost use Rattle.nl_field.specs.Numbers.{max_bytes};
 ghost use Rattle.nl_meta.specs.Nodes.{entries_of_inode, graph_of};
+ghost use Rattle.nl_namespace.specs.Holding.{HasEntries};
 ghost use Rattle.nl_namespace.specs.Listing.{IfListed, IsListing, ListsNames, PrintsPlace, kind_mark};
 ghost use Rattle.nl_namespace.specs.Reading.{listing_stop};
 ghost use Rattle.nl_meta_running.specs.Reading.{ReadsExplainStop, stop_of};
@@ -88,7 +89,7 @@ pub(crate) fn size_of(rec: &InodeRec) -> u32
     rec.size as u32
 }
 
-/// Adds the name at a place of a directory.
+/// Adds the name at a place of a directory whose pages are resident.
 fn print_place<D: VirtualPages>(
     device: &mut D,
     meta: &mut Meta,
@@ -100,6 +101,7 @@ fn print_place<D: VirtualPages>(
     requires formed { D.formed device.old }
     requires runs { RunningIsRight D.Counts device.old meta.old }
     requires directory { IsDirectoryOf D.Counts device.old meta.old rec.now }
+    requires held { HasEntries D.Counts device.old meta.old meta.old rec.now }
     requires below { place < rec.now.size }
     requires room { length out.old + 57 ≤ max_bytes }
     ensures formed { D.formed device.new }
@@ -109,7 +111,6 @@ fn print_place<D: VirtualPages>(
     ensures kept { PreservesRunning D.Counts device.old meta.old device.new meta.new }
     ensures reads { ReadsExplainStop D.Counts device.old device.new (stop_of result) }
 {
-    hold_entries(device, meta, rec)?;
     let entry = entry_at(rec, meta, place);
     let target = node(device, meta, nodes, entry.ino)?;
     print(&entry, target.kind, out);

@@ -1,14 +1,15 @@
 //! The places of a directory in the order of their names.
 ghost use Rattle.std.specs.Prelude.{◌≡◌, ◌≤◌, length};
+ghost use Rattle.std.specs.Cmp.Lexicographic.{slice_cmp};
+ghost use Rattle.std.specs.Ordering.{is_lt, nat_cmp};
 ghost use Rattle.nl_meta.specs.Nodes.{entries_of_inode};
 ghost use Rattle.nl_meta.specs.Pages.{page_of};
 ghost use Rattle.nl_dir.specs.Directory.{IsDirectory};
-ghost use Rattle.nl_namespace.specs.Listing.{is_before};
 ghost use Rattle.nl_namespace.specs.Sorting.{IsOrder, Parts, entries_at};
 
 use crate::names::size_of;
 use arrayvec::ArrayVec;
-use nl_dir::entry_at;
+use nl_dir::{entry_at, name_at};
 use nl_field::{EntryRec, InodeRec};
 use nl_meta::Meta;
 use std::cmp::Ordering;
@@ -50,16 +51,16 @@ fn place_among(
         return low;
     }
     let middle = low + (high - low) / 2;
-    let other = entry_at(rec, meta, order[middle]);
-    if comes_before(&other, entry) {
+    if comes_before(name_at(rec, meta, order[middle]), entry) {
         place_among(rec, meta, order, entry, middle + 1, high)
     } else {
         place_among(rec, meta, order, entry, low, middle)
     }
 }
 
-fn comes_before(a: &EntryRec, b: &EntryRec) -> bool
-    ensures { result ≡ is_before a.now b.now }
+// Whether a name comes before that of an entry, by its bytes.
+fn comes_before(name: &[u8], entry: &EntryRec) -> bool
+    ensures { result ≡ is_lt (slice_cmp nat_cmp name.now entry.now.name) }
 {
-    a.name.bytes().cmp(b.name.bytes()) == Ordering::Less
+    name.cmp(entry.name.bytes()) == Ordering::Less
 }

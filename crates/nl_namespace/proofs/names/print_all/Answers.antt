@@ -9,6 +9,7 @@ use Rattle.nl_dir.proofs.Records.{spelled-dir}
 use Rattle.nl_namespace.specs.Listing.{IsListing, text_of}
 use Rattle.nl_namespace.specs.Sorting.{IsOrder, entries_at}
 use Rattle.nl_meta_running.specs.Running.{running_on}
+use Rattle.nl_namespace.proofs.Entries.{held-on}
 use Rattle.nl_namespace.proofs.Graphs.{graph}
 use Rattle.nl_meta_running.proofs.Holds.{bounds-of, none-runs}
 use Rattle.nl_meta_running.proofs.Kept.{kept-then, runs-then, used-on}
@@ -39,6 +40,16 @@ pub print_place-requires-clause-directory : goal.print_place-requires-clause-dir
 print_place-requires-clause-directory g c =
     let d = c.requires.directory in
     (d.0, used-on g.D.Counts c.hold_entries.new.device c.hold_entries.new.meta c.loop-i.device c.loop-i.meta (bounds-of (g.D.Counts.shape c.hold_entries.new.device) (g.met.D.VirtualPages.numbers c.hold_entries.new.device c.in-Ok.ensures.formed)) c.loop-i.invariant.kept d.0 c.args.rec.now (used-on g.D.Counts c.args.device.now c.args.meta.now c.hold_entries.new.device c.hold_entries.new.meta (bounds-of (g.D.Counts.shape c.args.device.now) (g.met.D.VirtualPages.numbers c.args.device.now c.requires.formed)) c.in-Ok.ensures.kept d.0 c.args.rec.now d.1), d.2)
+
+pub print_place-requires-clause-held : goal.print_place-requires-clause-held
+print_place-requires-clause-held g c =
+    let d = c.requires.directory in
+    let b = bounds-of (g.D.Counts.shape c.args.device.now) (g.met.D.VirtualPages.numbers c.args.device.now c.requires.formed) in
+    let held = c.in-Ok.ensures.there in
+    held-on g.D.Counts c.hold_entries.new.device c.hold_entries.new.meta c.loop-i.device c.loop-i.meta (bounds-of (g.D.Counts.shape c.hold_entries.new.device) (g.met.D.VirtualPages.numbers c.hold_entries.new.device c.in-Ok.ensures.formed)) c.loop-i.invariant.kept d.0 c.args.rec.now
+    (used-on g.D.Counts c.args.device.now c.args.meta.now c.hold_entries.new.device c.hold_entries.new.meta b c.in-Ok.ensures.kept d.0 c.args.rec.now d.1) d.2
+    (runs-then g.D.Counts c.args.device.now c.args.meta.now c.hold_entries.new.device c.hold_entries.new.meta b c.in-Ok.ensures.kept c.requires.runs)
+    (record { directory = held.directory; entries = held.entries ∙ sym (entries-on g.D.Counts c.args.device.now c.args.meta.now c.hold_entries.new.device c.hold_entries.new.meta b c.in-Ok.ensures.kept d.0 c.args.rec.now d.1 d.2) })
 
 pub print_place-requires-clause-below : goal.print_place-requires-clause-below
 print_place-requires-clause-below g c =
