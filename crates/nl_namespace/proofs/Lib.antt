@@ -32,6 +32,7 @@ mod TreeWalks
 mod Walks
 mod EntrySteps
 mod HeldDirectories
+mod NodeKinds
 mod MoveFits
 mod MoveSteps
 mod MovedGraphs

@@ -60,15 +60,19 @@ rising-at (z ∷ xs) r (suc i) (suc j) x y l a b = rising-at xs r.1 i j x y (ome
 
 -- ---- one half of what is looked through
 
-module _ (xs : List EntryRec) (rising : Rising xs) (e other : EntryRec) (low high middle : ℕ) (parts : Parts xs e low high) (at : slice_get xs middle ≡ Some other) where
-  pub upper-half : is_before other e ≡ true → Parts xs e (middle + 1) high
+-- an entry of a name
+abbrev pub named : List ℕ → EntryRec
+named name = record no_entry { name = name }
+
+module _ (xs : List EntryRec) (rising : Rising xs) (e other : EntryRec) (low high middle : ℕ) (parts : Parts xs e.name low high) (at : slice_get xs middle ≡ Some other) where
+  pub upper-half : is_before other e ≡ true → Parts xs e.name (middle + 1) high
   upper-half b = record { before = λ i x l is. by i x is (cases_lt i middle) (omega (arith, l)); behind = parts.behind }
     where
       by : (i : ℕ) (x : EntryRec) → slice_get xs i ≡ Some x → (i < middle) ⊎ (middle ≤ i) → i ≤ middle → is_before x e ≡ true
       by i x is (inl l) m = before-then x other e (rising-at xs rising i middle x other l is at) b
       by i x is (inr l) m = let same : i ≡ middle = omega (arith, l, m) in ap (λ (z : EntryRec). is_before z e) (some_in x other (sym is ∙ ap (slice_get xs) same ∙ at)) ∙ b
 
-  pub lower-half : is_before other e ≡ false → Parts xs e low middle
+  pub lower-half : is_before other e ≡ false → Parts xs e.name low middle
   lower-half b = record { before = parts.before; behind = λ i x l is. by i x is (cases_lt middle i) l }
     where
       not-before : (x : EntryRec) → is_before other x ≡ true → (is_before x e ≡ true) ⊎ (is_before x e ≡ false) → is_before x e ≡ false
@@ -167,7 +171,7 @@ rising-between (y ∷ xs) (suc i) x r before behind =
     by f (inl e) = ap (is_before y) e ∙ before zero y (omega arith) refl
     by f (inr h) = r.0 f h
 
-module _ (es : List EntryRec) (k : ℕ) (ps : List ℕ) (order : IsOrder es k ps) (e : EntryRec) (is : slice_get es k ≡ Some e) (other : (x : EntryRec) → Has (take k es) x → x.name ≡ e.name → ⊥) (at : ℕ) (parts : Parts (entries_at es ps) e at at) where
+module _ (es : List EntryRec) (k : ℕ) (ps : List ℕ) (order : IsOrder es k ps) (e : EntryRec) (is : slice_get es k ≡ Some e) (other : (x : EntryRec) → Has (take k es) x → x.name ≡ e.name → ⊥) (at : ℕ) (parts : Parts (entries_at es ps) e.name at at) where
   listed-is : entries_at es (take at ps ++ k ∷ drop at ps) ≡ take at (entries_at es ps) ++ e ∷ drop at (entries_at es ps)
   listed-is =
       map-between _ ps at k
@@ -211,8 +215,8 @@ unfolding Rising
 order-none es = record { counted = refl; below = λ p h. absurd h; each = λ e. ((λ h. absurd h), (λ h. absurd h)); rising = tt }
 
 -- nothing is before or behind
-pub parts-all : (xs : List EntryRec) (e : EntryRec) (high : ℕ) → length xs ≤ high → Parts xs e 0 high
-parts-all xs e high most = record { before = λ i x l is. absurd (never i l); behind = λ i x l is. absurd (outside xs i x is (omega (arith, most, l))) }
+pub parts-all : (xs : List EntryRec) (name : List ℕ) (high : ℕ) → length xs ≤ high → Parts xs name 0 high
+parts-all xs name high most = record { before = λ i x l is. absurd (never i l); behind = λ i x l is. absurd (outside xs i x is (omega (arith, most, l))) }
   where
     never : (i : ℕ) → i < 0 → ⊥
     never i l = omega (arith, l)

@@ -7,6 +7,7 @@ mod entering;
 mod finding;
 mod free;
 mod hold;
+mod kinds;
 pub mod laws;
 mod making;
 mod names;

@@ -10,6 +10,7 @@ ghost use Rattle.nl_meta_running.specs.Running.{IsDirectoryOf, IsDirectoryAt, Ru
 
 use crate::answer::Listing;
 use crate::hold::hold_entries;
+use crate::kinds::node_kind;
 use crate::ordering::in_order;
 use nl_dir::entry_at;
 use nl_field::{EntryRec, InodeRec, Kind};
@@ -38,7 +39,7 @@ pub fn list<D: VirtualPages>(
 {
     out.clear();
     match node(device, meta, nodes, ino) {
-        Ok(rec) => match print_all(device, meta, nodes, &rec, out) {
+        Ok(rec) => match print_all(device, meta, &rec, out) {
             Ok(count) => Listing::Listed(count),
             Err(Stop::Fault) => Listing::Fault,
             Err(Stop::Lost { wanted, found }) => Listing::Lost { wanted, found },
@@ -52,7 +53,6 @@ pub fn list<D: VirtualPages>(
 fn print_all<D: VirtualPages>(
     device: &mut D,
     meta: &mut Meta,
-    nodes: &Nodes,
     rec: &InodeRec,
     out: &mut ReplyBuf,
 ) -> Result<u32, Stop>
@@ -73,7 +73,7 @@ fn print_all<D: VirtualPages>(
     let order = in_order(rec, meta);
     let count = size_of(rec);
     for i in 0..count {
-        match print_place(device, meta, nodes, rec, order.as_slice()[i as usize], out) {
+        match print_place(device, meta, rec, order.as_slice()[i as usize], out) {
             Ok(()) => {}
             Err(stop) => return Err(stop),
         }
@@ -93,7 +93,6 @@ pub(crate) fn size_of(rec: &InodeRec) -> u32
 fn print_place<D: VirtualPages>(
     device: &mut D,
     meta: &mut Meta,
-    nodes: &Nodes,
     rec: &InodeRec,
     place: u32,
     out: &mut ReplyBuf,
@@ -112,8 +111,8 @@ fn print_place<D: VirtualPages>(
     ensures reads { ReadsExplainStop D.Counts device.old device.new (stop_of result) }
 {
     let entry = entry_at(rec, meta, place);
-    let target = node(device, meta, nodes, entry.ino)?;
-    print(&entry, target.kind, out);
+    let kind = node_kind(device, meta, entry.ino)?;
+    print(&entry, kind, out);
     Ok(())
 }
 

@@ -9,12 +9,13 @@ ghost use Rattle.nl_namespace.specs.Sorting.{IsOrder, Parts, entries_at};
 
 use crate::names::size_of;
 use arrayvec::ArrayVec;
-use nl_dir::{entry_at, name_at};
-use nl_field::{EntryRec, InodeRec};
+use nl_dir::name_at;
+use nl_field::InodeRec;
 use nl_meta::Meta;
 use std::cmp::Ordering;
 
-/// The places of the entries of a directory, by the bytes of their names. Each is put among those before it.
+/// The places of the entries of a directory, by the bytes of their names. Each is put among those before it. Names are compared as
+/// their pages have them, and no entry is read.
 pub(crate) fn in_order(rec: &InodeRec, meta: &Meta) -> ArrayVec<u32, 1024>
     requires directory { IsDirectory (page_of meta.now) rec.now }
     requires few { rec.now.size ≤ 1024 }
@@ -22,19 +23,19 @@ pub(crate) fn in_order(rec: &InodeRec, meta: &Meta) -> ArrayVec<u32, 1024>
 {
     let mut order = ArrayVec::new();
     for place in 0..size_of(rec) {
-        let entry = entry_at(rec, meta, place);
-        let at = place_among(rec, meta, order.as_slice(), &entry, 0, order.len());
+        let name = name_at(rec, meta, place);
+        let at = place_among(rec, meta, order.as_slice(), name, 0, order.len());
         order.insert(at, place);
     }
     order
 }
 
-/// Where an entry comes among places in order: not before `low`, and not behind `high`.
+/// Where a name comes among those of places in order: not before `low`, and not behind `high`.
 fn place_among(
     rec: &InodeRec,
     meta: &Meta,
     order: &[u32],
-    entry: &EntryRec,
+    name: &[u8],
     low: usize,
     high: usize,
 ) -> usize
@@ -43,24 +44,24 @@ fn place_among(
     requires order { IsOrder (entries_of_inode (page_of meta.now) rec.now) (length order.now) order.now }
     requires range { low ≤ high }
     requires inside { high ≤ length order.now }
-    requires parts { Parts (entries_at (entries_of_inode (page_of meta.now) rec.now) order.now) entry.now low high }
+    requires parts { Parts (entries_at (entries_of_inode (page_of meta.now) rec.now) order.now) name.now low high }
     ensures inside { result ≤ length order.now }
-    ensures parts { Parts (entries_at (entries_of_inode (page_of meta.now) rec.now) order.now) entry.now result result }
+    ensures parts { Parts (entries_at (entries_of_inode (page_of meta.now) rec.now) order.now) name.now result result }
 {
     if low == high {
         return low;
     }
     let middle = low + (high - low) / 2;
-    if comes_before(name_at(rec, meta, order[middle]), entry) {
-        place_among(rec, meta, order, entry, middle + 1, high)
+    if comes_before(name_at(rec, meta, order[middle]), name) {
+        place_among(rec, meta, order, name, middle + 1, high)
     } else {
-        place_among(rec, meta, order, entry, low, middle)
+        place_among(rec, meta, order, name, low, middle)
     }
 }
 
-// Whether a name comes before that of an entry, by its bytes.
-fn comes_before(name: &[u8], entry: &EntryRec) -> bool
-    ensures { result ≡ is_lt (slice_cmp nat_cmp name.now entry.now.name) }
+// The first name comes before the second.
+fn comes_before(a: &[u8], b: &[u8]) -> bool
+    ensures { result ≡ is_lt (slice_cmp nat_cmp a.now b.now) }
 {
-    name.cmp(entry.name.bytes()) == Ordering::Less
+    a.cmp(b) == Ordering::Less
 }

@@ -3,7 +3,7 @@ use Rattle.std.specs.Cmp.Lexicographic.{slice_cmp}
 use Rattle.std.specs.Ordering.{is_lt, nat_cmp}
 use Rattle.nl_meta.specs.Nodes.{entries_of_inode}
 use Rattle.nl_meta.specs.Pages.{page_of}
-use Rattle.nl_namespace.proofs.Placing.{listed-at, lower-half, place-at-position, place-has, upper-half}
+use Rattle.nl_namespace.proofs.Placing.{listed-at, lower-half, named, place-at-position, place-has, upper-half}
 use Rattle.nl_namespace.specs.Sorting.{entries_at}
 use Rattle.std.specs.Prelude.{slice_index_or}
 use Rattle.nl_namespace.proofs.ordering.+place_among.Goals as goal
@@ -39,7 +39,7 @@ place_among-requires t c =
               omega (arith, n, r),
               (
                 c.requires.inside,
-                upper-half (entries_at es c.args.order.now) c.requires.order.rising c.args.entry.now c.name_at.ensures.0 c.args.low c.args.high (c.args.low + (c.args.high - c.args.low) / 2) c.requires.parts at (ap (λ (name : List ℕ). is_lt (slice_cmp nat_cmp name c.args.entry.now.name)) (sym c.name_at.ensures.2) ∙ sym c.comes_before.ensures ∙ c.if-comes_before.true),
+                upper-half (entries_at es c.args.order.now) c.requires.order.rising (named c.args.name.now) c.name_at.ensures.0 c.args.low c.args.high (c.args.low + (c.args.high - c.args.low) / 2) c.requires.parts at (ap (λ (name : List ℕ). is_lt (slice_cmp nat_cmp name c.args.name.now)) (sym c.name_at.ensures.2) ∙ sym c.comes_before.ensures ∙ c.if-comes_before.true),
               ),
             ),
           ),
@@ -67,7 +67,7 @@ place_among-requires-else-comes_before t c =
               omega (arith, n, r),
               (
                 omega (arith, n, r, i),
-                lower-half (entries_at es c.args.order.now) c.requires.order.rising c.args.entry.now c.name_at.ensures.0 c.args.low c.args.high (c.args.low + (c.args.high - c.args.low) / 2) c.requires.parts at (ap (λ (name : List ℕ). is_lt (slice_cmp nat_cmp name c.args.entry.now.name)) (sym c.name_at.ensures.2) ∙ sym c.comes_before.ensures ∙ c.if-comes_before.false),
+                lower-half (entries_at es c.args.order.now) c.requires.order.rising (named c.args.name.now) c.name_at.ensures.0 c.args.low c.args.high (c.args.low + (c.args.high - c.args.low) / 2) c.requires.parts at (ap (λ (name : List ℕ). is_lt (slice_cmp nat_cmp name c.args.name.now)) (sym c.name_at.ensures.2) ∙ sym c.comes_before.ensures ∙ c.if-comes_before.false),
               ),
             ),
           ),

@@ -14,15 +14,16 @@ place_among-at-requires-clause-parts c =
     let n = listed-count es c.as_slice.result.now in
     let s = ap length c.as_slice.ensures.value in
     let t = c.len.ensures.value in
-    parts-all (entries_at es c.as_slice.result.now) c.entry_at-entry.result c.len.result (omega (arith, n, s, t))
+    parts-all (entries_at es c.as_slice.result.now) c.name_at-name.result.now c.len.result (omega (arith, n, s, t))
 
 pub loop-place-preserved : goal.loop-place-preserved
 loop-place-preserved c =
     let es = entries_of_inode (page_of c.args.meta.now) c.args.rec.now in
+    let n = c.name_at-name.ensures in
     let e = c.size_of-place-end.ensures in
     let t = c.loop-place-test.true in
     let below : c.loop-place.place < c.args.rec.now.size = omega (arith, e, t) in
     subst (IsOrder es _) (sym c.insert.ensures.items)
-    (order-more es c.loop-place.place c.loop-place.order.items c.loop-place.invariant c.entry_at-entry.result c.entry_at-entry.ensures
-    (names-apart (page_of c.args.meta.now) c.args.rec.now c.requires.directory c.loop-place.place c.entry_at-entry.result below c.entry_at-entry.ensures)
-    c.place_among-at.result (subst (λ (ps : List ℕ). Parts (entries_at es ps) c.entry_at-entry.result c.place_among-at.result c.place_among-at.result) c.as_slice.ensures.value c.place_among-at.ensures.parts))
+    (order-more es c.loop-place.place c.loop-place.order.items c.loop-place.invariant n.0 n.1
+    (names-apart (page_of c.args.meta.now) c.args.rec.now c.requires.directory c.loop-place.place n.0 below n.1)
+    c.place_among-at.result (subst (λ (name : List ℕ). Parts (entries_at es c.loop-place.order.items) name c.place_among-at.result c.place_among-at.result) n.2 (subst (λ (ps : List ℕ). Parts (entries_at es ps) c.name_at-name.result.now c.place_among-at.result c.place_among-at.result) c.as_slice.ensures.value c.place_among-at.ensures.parts)))
