@@ -17,10 +17,10 @@ pub record IsNextEntry (entries : List EntryRec) (after : List ℕ) (entry : Ent
   pub behind : is_behind after entry.name ≡ true
   pub least : (other : EntryRec) → Has entries other → is_behind after other.name ≡ true → is_behind other.name entry.name ≡ false
 
--- an entry comes before another one, where there is another
-abbrev pub is_lesser : EntryRec → Option EntryRec → Bool
-is_lesser entry None = true
-is_lesser entry (Some other) = is_behind entry.name other.name
+-- a name comes before that of an entry, where there is one
+abbrev pub is_lesser : List ℕ → Option EntryRec → Bool
+is_lesser name None = true
+is_lesser name (Some other) = is_behind name other.name
 
 -- The least of them behind a name, or none where none is behind it.
 abbrev pub IsLeastOf : List EntryRec → List ℕ → Option EntryRec → Type 0

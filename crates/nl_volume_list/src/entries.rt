@@ -1,4 +1,4 @@
-ghost use Rattle.std.specs.Prelude.{◌≡◌, ◌≤◌, IfOk};
+ghost use Rattle.std.specs.Prelude.{◌≡◌, ◌<◌, ◌≤◌, IfOk, IfSome, option_and_then, slice_get};
 ghost use Rattle.nl_dir.specs.Directory.{IsDirectory};
 ghost use Rattle.nl_meta.specs.Nodes.{entries_of_inode, graph_of};
 ghost use Rattle.nl_meta.specs.Pages.{page_of};
@@ -6,7 +6,7 @@ ghost use Rattle.nl_meta_running.specs.Reading.{ReadsExplainStop, stop_of};
 ghost use Rattle.nl_meta_running.specs.Running.{IsUsedNode, RunningIsRight, PreservesRunning, running_on};
 ghost use Rattle.nl_volume_list.specs.Entries.{IsLeastOf, LeastBehind, is_behind, is_lesser};
 
-use nl_dir::entry_at;
+use nl_dir::{entry_at, name_at};
 use nl_field::{EntryRec, InodeRec, Kind};
 use nl_iface::VirtualPages;
 use nl_inode::Nodes;
@@ -47,29 +47,45 @@ fn least_entry(rec: &InodeRec, meta: &Meta, after: &[u8]) -> Option<EntryRec>
     requires few { rec.now.size ≤ 1024 }
     ensures { IsLeastOf (entries_of_inode (page_of meta.now) rec.now) after.now result }
 {
+    match least_place(rec, meta, after) {
+        Some(place) => Some(entry_at(rec, meta, place)),
+        None => None,
+    }
+}
+
+/// Where that entry stands. No entry but that one is read: names are compared as their pages have them.
+fn least_place(rec: &InodeRec, meta: &Meta, after: &[u8]) -> Option<u32>
+    requires directory { IsDirectory (page_of meta.now) rec.now }
+    requires few { rec.now.size ≤ 1024 }
+    ensures below { IfSome result (λ place. place < rec.now.size) }
+    ensures least { IsLeastOf (entries_of_inode (page_of meta.now) rec.now) after.now
+        (option_and_then (slice_get (entries_of_inode (page_of meta.now) rec.now)) result) }
+{
     let mut least = None;
     for place in 0..rec.size as u32 {
-        let entry = entry_at(rec, meta, place);
-        if comes_behind(after, &entry) && is_before(&entry, &least) {
-            least = Some(entry);
+        let name = name_at(rec, meta, place);
+        if comes_behind(after, name) && is_before(rec, meta, name, least) {
+            least = Some(place);
         }
     }
     least
 }
 
-/// The name of the entry comes behind another.
-fn comes_behind(after: &[u8], entry: &EntryRec) -> bool
-    ensures { result ≡ is_behind after.now entry.now.name }
-{
-    after.cmp(entry.name.bytes()) == Ordering::Less
-}
-
-/// The entry comes before another, where there is one.
-fn is_before(entry: &EntryRec, least: &Option<EntryRec>) -> bool
-    ensures { result ≡ is_lesser entry.now least.now }
+/// A name comes before that of the entry at a place, where there is one.
+fn is_before(rec: &InodeRec, meta: &Meta, name: &[u8], least: Option<u32>) -> bool
+    requires directory { IsDirectory (page_of meta.now) rec.now }
+    requires below { IfSome least (λ place. place < rec.now.size) }
+    ensures { result ≡ is_lesser name.now (option_and_then (slice_get (entries_of_inode (page_of meta.now) rec.now)) least) }
 {
     match least {
-        Some(other) => entry.name.bytes().cmp(other.name.bytes()) == Ordering::Less,
+        Some(place) => comes_behind(name, name_at(rec, meta, place)),
         None => true,
     }
+}
+
+/// The second name comes behind the first.
+fn comes_behind(after: &[u8], name: &[u8]) -> bool
+    ensures { result ≡ is_behind after.now name.now }
+{
+    after.cmp(name) == Ordering::Less
 }
