@@ -1,4 +1,4 @@
-ghost use Rattle.std.specs.Prelude.{◌≡◌, ◌<◌, ◌≤◌, IfOk, IfSome, option_and_then, slice_get};
+ghost use Rattle.std.specs.Prelude.{◌≡◌, ◌<◌, ◌≤◌, IfOk, IfSome, drop, length, option_and_then, slice_get};
 ghost use Rattle.nl_dir.specs.Directory.{IsDirectory};
 ghost use Rattle.nl_meta.specs.Nodes.{entries_of_inode, graph_of};
 ghost use Rattle.nl_meta.specs.Pages.{page_of};
@@ -87,5 +87,22 @@ fn is_before(rec: &InodeRec, meta: &Meta, name: &[u8], least: Option<u32>) -> bo
 fn comes_behind(after: &[u8], name: &[u8]) -> bool
     ensures { result ≡ is_behind after.now name.now }
 {
-    after.cmp(name) == Ordering::Less
+    is_behind_from(after, name, 0)
+}
+
+/// The same of what two names have from a place on. Most differ among their first eight bytes, which are looked at one by one; the others
+/// are compared at once.
+fn is_behind_from(after: &[u8], name: &[u8], at: usize) -> bool
+    requires first { at ≤ length after.now }
+    requires second { at ≤ length name.now }
+    ensures { result ≡ is_behind (drop at after.now) (drop at name.now) }
+{
+    if at >= 8 || at >= after.len() || at >= name.len() {
+        return after[at..].cmp(&name[at..]) == Ordering::Less;
+    }
+    if after[at] == name[at] {
+        is_behind_from(after, name, at + 1)
+    } else {
+        after[at] < name[at]
+    }
 }
