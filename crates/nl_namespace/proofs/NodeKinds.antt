@@ -1,5 +1,5 @@
 -- What a node is stands in the first of its bytes.
-use Rattle.std.proofs.Common.{◌≡◌, ℕ, ◌+◌, ◌/◌, ◌%◌, Bool, true, false, ◌&&◌, cond, List, [], refl, sym, ap, ◌∙◌, Option, Some, None, unwrap_or, bytes_eq}
+use Rattle.std.proofs.Common.{◌≡◌, ℕ, ◌+◌, ◌/◌, ◌%◌, Bool, true, false, ◌&&◌, cond, List, [], sym, ap, ◌∙◌, Option, Some, None, unwrap_or, bytes_eq}
 use Rattle.std.specs.Prelude.{slice_index}
 use Rattle.nl_field.specs.Inode.{inode_bytes, inode_fields, inode_of, is_inode, kind_of}
 use Rattle.nl_field.specs.declared.inode.InodeRec.{InodeRec}
