@@ -1,6 +1,7 @@
 //! A ticket lock over one value, and the history of its turns.
 #![tactic(auto)]
 
+mod bells;
 mod entry;
 mod kept;
 mod plays;

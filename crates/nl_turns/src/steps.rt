@@ -5,6 +5,7 @@ ghost use Rattle.nl_turns.specs.View.{blank, idle, enters, inside, leaves, hosts
 ghost use Rattle.nl_turns.specs.Rule.{blank_view, HostFits, by_entries};
 ghost use Rattle.nl_turns.specs.Steps.{after_pass, NumbersAreGiven, HasReached};
 
+use crate::bells::Bells;
 use crate::entry::Entry;
 use crate::kept::{Kept, Opens};
 use crate::plays::{Add, Begin, Draw, Fetch, Look, Origin, Park, Says, Settle};
@@ -13,7 +14,6 @@ use atomic_table::{Refused, Table};
 use std::alloc::Global;
 use std::snapshot::Snapshot;
 use std::sync::Wait;
-use std::thread;
 
 /// The table, and its first seat.
 pub(crate) fn open<V: Kept>(alloc: Global, value: V, seats: u32) -> Result<(Board<V>, Place<V>), V>
@@ -58,7 +58,12 @@ pub(crate) fn begin<V: Kept, O: Opens>(top: &Top<V>, place: &mut Place<V>)
 }
 
 /// Draws a ticket, and waits for its turn. Then it takes the slot.
-pub(crate) fn reach<V: Kept, O: Origin<V>, R: Wait>(rt: &R, top: &Top<V>, place: &mut Place<V>)
+pub(crate) fn reach<V: Kept, O: Origin<V>, R: Wait>(
+    rt: &R,
+    top: &Top<V>,
+    bells: &Bells,
+    place: &mut Place<V>,
+)
     requires told { O.origin ≡ Some top.now.key.value.value }
     requires table { (place.old.table_id ≡ top.now.table_id) × (top.now.table_id.words ≡ 2) × (top.now.table_id.slots ≡ 1) }
     requires idle { (place.old.me.0.role ≡ idle) × (place.old.me.1 ≡ []) }
@@ -66,12 +71,13 @@ pub(crate) fn reach<V: Kept, O: Origin<V>, R: Wait>(rt: &R, top: &Top<V>, place:
     ensures reached { HasReached (by_entries (V.stands top.now.key.value.value)) place.old.me place.new.me }
 {
     let ticket = top.fetch_add::<Draw>(place, 0, 1);
+    let mut yields = 0;
     for _ in rt.forever() {
         let passed = top.load::<Look<O>>(place, 1);
         if passed == ticket {
             return;
         }
-        thread::yield_now();
+        yields = bells.wait(rt, ticket, passed, yields);
     }
     unreachable!()
 }
@@ -97,8 +103,8 @@ pub(crate) fn take_out<V: Kept>(top: &Top<V>, place: &mut Place<V>)
     top.load::<Fetch>(place, 1);
 }
 
-/// Gives the slot back with the next turn, and adds an entry to the history.
-pub(crate) fn add<V: Kept, E: Says>(top: &Top<V>, place: &mut Place<V>, entry: Entry)
+/// Gives the slot back with the next turn, adds an entry to the history, and wakes those whose turns come next.
+pub(crate) fn add<V: Kept, E: Says>(top: &Top<V>, bells: &Bells, place: &mut Place<V>, entry: Entry)
     requires said { E.entry ≡ entry }
     requires table { (place.old.table_id ≡ top.now.table_id) × (top.now.table_id.words ≡ 2) × (top.now.table_id.slots ≡ 1) }
     requires turn { (t : ℕ) × (y : V) × (place.old.me.0.role ≡ leaves t) × (place.old.me.1 ≡ (0, Some y) ∷ [])
@@ -106,7 +112,8 @@ pub(crate) fn add<V: Kept, E: Says>(top: &Top<V>, place: &mut Place<V>, entry: E
     ensures place { (place.new.table_id ≡ place.old.table_id) × (place.new.id ≡ place.old.id) }
     ensures added { place.new.me ≡ (after_pass place.old.me.0 entry, []) }
 {
-    top.fetch_add::<Add<E>>(place, 1, 1);
+    let passed = top.fetch_add::<Add<E>>(place, 1, 1);
+    bells.ring(passed.wrapping_add(1));
 }
 
 /// Puts the first seat at rest after a join. What a join tells is told by the read of a word that follows it.

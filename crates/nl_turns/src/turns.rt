@@ -3,6 +3,7 @@ ghost use Rattle.std.specs.Prelude.{◌≡◌, ℕ, ◌+◌, ◌-◌, ◌<◌, �
 ghost use mathlib.Core.List.{IsPrefix};
 ghost use Rattle.nl_turns.specs.Seat.{entries, by_seat, passed_by, longer, NoNumberBeyond, SeatState};
 
+use crate::bells::Bells;
 use crate::entry::Entry;
 use crate::kept::{Kept, Opens};
 use crate::plays::Seats;
@@ -22,6 +23,7 @@ use std::sync::Wait;
 /// a beginning of one history, which has an entry for each turn that was passed.
 pub struct Turns<V: Kept> {
     table: Board<V>,
+    bells: Bells,
 }
 
 impl<V: Kept> Model for Turns<V> {
@@ -58,7 +60,8 @@ impl<V: Kept> Turns<V> {
             badge: place.into_badge(),
             places: seats - 1,
         };
-        Ok((Turns { table }, seat))
+        let bells = Bells::new();
+        Ok((Turns { table, bells }, seat))
     }
 
     /// Waits for the seat's turn, and takes the value. It stands for the opening and a history that begins with all that the seat
@@ -76,7 +79,7 @@ impl<V: Kept> Turns<V> {
     {
         let top = &self.table.shared;
         let mut place = mem::replace(&mut seat.badge, Badge::blank()).into_seat();
-        reach::<V, Brand, R>(rt, top, &mut place);
+        reach::<V, Brand, R>(rt, top, &self.bells, &mut place);
         let value = top.exchange(&mut place, 0, None).unwrap();
         put_home(top, &mut place);
         seat.badge = place.into_badge();
@@ -98,7 +101,7 @@ impl<V: Kept> Turns<V> {
         take_out(top, &mut place);
         let found = top.exchange(&mut place, 0, Some(value));
         let None = found else { unreachable!() };
-        add::<V, Brand>(top, &mut place, entry);
+        add::<V, Brand>(top, &self.bells, &mut place, entry);
         seat.badge = place.into_badge();
     }
 
@@ -158,7 +161,7 @@ impl<V: Kept> Turns<V> {
         requires first { (seat.number ≡ 0) × (seat.places + 1 ≡ self.seats) }
         ensures { V.stands self.origin seat.opening (entries seat.seen) result }
     {
-        let Turns { table } = self;
+        let Turns { table, bells: _ } = self;
         let TurnSeat { badge, places: _ } = seat;
         close(table, badge.into_seat())
     }

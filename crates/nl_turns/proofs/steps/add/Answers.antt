@@ -5,8 +5,8 @@ use Rattle.nl_turns.specs.Rule.{by_entries}
 use Rattle.nl_turns.proofs.Begins.{lock_adds}
 use Rattle.nl_turns.proofs.steps.add.Goals as goal
 
-pub fetch_add-requires : goal.fetch_add-requires
-fetch_add-requires g c =
+pub fetch_add-passed-requires : goal.fetch_add-passed-requires
+fetch_add-passed-requires g c =
     let stands = by_entries (g.V.Kept.stands c.args.top.now.key.value.value) in
     let t = c.requires.turn in (
       search rules,
