@@ -24,8 +24,11 @@ const HANDLER: u8 = 9;
 /// The cleaner copies while fewer blocks than these are free.
 const FEW_BLOCKS: u32 = 6;
 
-/// The cleaner lets others run at most so many times between two turns.
+/// The cleaner rests at most so many microseconds between two turns.
 const MOST_RESTS: u32 = 1023;
+
+/// The cleaner sleeps where it rests longer than so many microseconds. The handler sleeps behind so many looks that found no callback.
+const FEW_RESTS: u32 = 31;
 
 /// What the loop of the cleaner has in hand, and whether one of its tasks found a page without the wanted stamp.
 #[derive(Drop)]
@@ -142,8 +145,7 @@ fn rest<G: Gate>(gate: &G, worker: u8, answer: DutyAnswer) -> Option<Told>
     }
 }
 
-/// How many times the cleaner lets others run before its next turn: not at all behind a task that did something, and else about twice as
-/// often as before.
+/// How long the cleaner rests before its next turn: not at all behind a task that did something, and else about twice as long as before.
 fn rests_after(rests: u32, answer: DutyAnswer) -> u32 {
     if matches!(answer, DutyAnswer::Did) {
         0
@@ -152,14 +154,30 @@ fn rests_after(rests: u32, answer: DutyAnswer) -> u32 {
     }
 }
 
-/// Lets others run so many times, or until the flag is raised.
-fn pause(stop: &StopFlag, rests: u32) {
+/// Lets others run so many times, or about so many microseconds where these are many, but no longer than until the flag is raised.
+fn pause<R: Wait>(rt: &R, stop: &StopFlag, rests: u32) {
+    let rings = stop.rings();
+    if rests > FEW_RESTS && !stop.is_raised() {
+        stop.nap(rt, rings, rests);
+        return;
+    }
     for _ in 0..rests {
         if stop.is_raised() {
             return;
         }
         thread::yield_now();
     }
+}
+
+/// Waits behind a look at the queue of notices that found none, until the bell has more rings than before that look. Answers how many such
+/// looks there were without a sleep.
+fn wait_for_notice<R: Wait>(rt: &R, stop: &StopFlag, rings: u32, looks: u32) -> u32 {
+    if looks < FEW_RESTS {
+        thread::yield_now();
+        return looks + 1;
+    }
+    stop.sleep(rt, rings);
+    0
 }
 
 #[tactic(auto, using(crate::proofs::Serving::handles_none))]
@@ -175,7 +193,9 @@ pub(crate) fn handle<V: Served, R: Wait, G: Gate>(
     requires { MayHandle turns.now.name notices.now handler }
     ensures { HasHandled V.tells notices.now handler result }
 {
+    let mut looks = 0;
     for _ in rt.forever() {
+        let rings = stop.rings();
         if stop.is_raised() {
             return handler;
         }
@@ -184,8 +204,9 @@ pub(crate) fn handle<V: Served, R: Wait, G: Gate>(
                 let answer = handle_turn(rt, turns, &mut handler.seat, number);
                 handler.lost = is_lost_now(handler.lost, answer);
                 rest(gate, HANDLER, answer);
+                looks = 0;
             }
-            None => thread::yield_now(),
+            None => looks = wait_for_notice(rt, stop, rings, looks),
         }
     }
     unreachable!()
@@ -208,13 +229,17 @@ pub(crate) fn clean<V: Served, R: Wait, G: Gate>(
     let mut wanted = Duty::Copy;
     let mut rests = 0;
     for _ in rt.forever() {
-        pause(stop, rests);
+        pause(rt, stop, rests);
         if stop.is_raised() {
             return cleaner;
         }
         let cleaned = clean_turn(rt, turns, &mut cleaner.seat, wanted);
         cleaner.lost = is_lost_now(cleaner.lost, cleaned.answer);
+        let sent = cleaner.outbox.last;
         cleaner.outbox.send_up_to(rt, notices, cleaned.posted);
+        if cleaner.outbox.last != sent {
+            stop.ring();
+        }
         rest(gate, CLEANER, cleaned.answer);
         wanted = next_task(cleaned.task, cleaned.answer);
         rests = rests_after(rests, cleaned.answer);
