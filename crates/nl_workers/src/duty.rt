@@ -27,8 +27,11 @@ const FEW_BLOCKS: u32 = 6;
 /// The cleaner rests at most so many microseconds between two turns.
 const MOST_RESTS: u32 = 1023;
 
-/// The cleaner sleeps where it rests longer than so many microseconds. The handler sleeps behind so many looks that found no callback.
+/// The cleaner sleeps where it rests longer than so many microseconds.
 const FEW_RESTS: u32 = 31;
+
+/// The handler sleeps behind so many looks in a row that found no callback.
+const FEW_LOOKS: u32 = 31;
 
 /// What the loop of the cleaner has in hand, and whether one of its tasks found a page without the wanted stamp.
 #[derive(Drop)]
@@ -169,10 +172,10 @@ fn pause<R: Wait>(rt: &R, stop: &StopFlag, rests: u32) {
     }
 }
 
-/// Waits behind a look at the queue of notices that found none, until the bell has more rings than before that look. Answers how many such
-/// looks there were without a sleep.
+/// Waits behind a look that found no callback: lets others run, or sleeps until the bell is rung once more than it was before that look.
+/// Answers how many such looks there were in a row since the last sleep.
 fn wait_for_notice<R: Wait>(rt: &R, stop: &StopFlag, rings: u32, looks: u32) -> u32 {
-    if looks < FEW_RESTS {
+    if looks < FEW_LOOKS {
         thread::yield_now();
         return looks + 1;
     }
