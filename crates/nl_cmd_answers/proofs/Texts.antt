@@ -9,7 +9,6 @@ use Rattle.std.proofs.lemmas.Grind.{flat_map-append}
 use Rattle.std.proofs.lemmas.Option.{get_or_from_slice_get, slice_get_within}
 use Rattle.nl_io.specs.Streams.{WritesStream}
 use Rattle.nl_io.specs.declared.sink.SinkAnswer.TheVariants as sink
-use Rattle.nl_io.proofs.StreamsLaws.{stopped, then_write}
 use Rattle.nl_print.specs.Texts.{Answered, answer_line, answer_lines}
 use Rattle.nl_cmd_answers.specs.Rows.{HavePlaces, is_ok, ok_in, read_by, read_in, row_line, said, written_by, written_in}
 use Rattle.nl_workers.specs.Table.{Row}
@@ -45,33 +44,13 @@ row_there [] i lt = absurd (omega (arith, lt))
 row_there (x ∷ rows) zero lt = (x, refl)
 row_there (x ∷ rows) (suc i) lt = row_there rows i (omega (arith, lt))
 
--- a line more was taken
-pub took_one : (old mid new : Option (List ℕ)) (rows : List Row) (i : ℕ) → i < length rows → WritesStream old mid sink.Took (flat_map row_line (take i rows))
-    → IfSome (slice_get rows i) (λ row. WritesStream mid new sink.Took (row_line row)) → WritesStream old new sink.Took (flat_map row_line (take (i + 1) rows))
-took_one old mid new rows i lt front text =
-    let row = row_there rows i lt in
-    subst (λ (t : List ℕ). WritesStream old new sink.Took t) (lines_one rows i row.0 row.1)
-    (then_write old mid new sink.Took (flat_map row_line (take i rows)) (row_line row.0) front (subst (λ o. IfSome o (λ row. WritesStream mid new sink.Took (row_line row))) row.1 text))
-
--- a failure ended the text within a line
-pub failed_within : (old mid new : Option (List ℕ)) (rows : List Row) (i : ℕ) → i < length rows → WritesStream old mid sink.Took (flat_map row_line (take i rows))
-    → IfSome (slice_get rows i) (λ row. WritesStream mid new sink.Failed (row_line row)) → WritesStream old new sink.Failed (flat_map row_line rows)
-failed_within old mid new rows i lt front text =
-    let row = row_there rows i lt in
-    let so_far = flat_map row_line (take i rows) in
-    let left = flat_map row_line (drop (i + 1) rows) in
-    let two = then_write old mid new sink.Failed so_far (row_line row.0) front (subst (λ o. IfSome o (λ row. WritesStream mid new sink.Failed (row_line row))) row.1 text) in
-    let whole : (so_far ++ row_line row.0) ++ left ≡ flat_map row_line rows =
-    ap (λ (t : List ℕ). t ++ left) (lines_one rows i row.0 row.1) ∙ sym (flat_map-append row_line (take (i + 1) rows) (drop (i + 1) rows)) ∙ ap (flat_map row_line) (take-append-drop (i + 1) rows) in
-    subst (λ (t : List ℕ). WritesStream old new sink.Failed t) whole (stopped old new (so_far ++ row_line row.0) left two)
-
 -- one number more on a number that is kept up to the greatest
 pub saturated_more : (a b : ℕ) → min (saturated a + b) 18446744073709551615 ≡ saturated (a + b)
 saturated_more a b = omega arith
 
 -- ---- rows in their places
 
-if_some : {A : Type 0} {P Q : A → Type 0} (o : Option A) → ((x : A) → P x → Q x) → IfSome o P → IfSome o Q
+pub if_some : {A : Type 0} {P Q : A → Type 0} (o : Option A) → ((x : A) → P x → Q x) → IfSome o P → IfSome o Q
 if_some None step p = p
 if_some (Some x) step p = step x p
 

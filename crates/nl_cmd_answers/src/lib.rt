@@ -2,6 +2,7 @@
 #![tactic(auto)]
 
 mod answers;
+mod gathered;
 pub mod laws;
 mod summary;
 
