@@ -42,8 +42,20 @@ const COLD: u32 = 16;
 impl Blocks {
     /// So many blocks from the first on, each of them Free.
     pub fn new(first: u32, count: u32, pages: u32) -> Blocks {
-        let block = Block { state: State::Free, wear: 0, used: 0, live: 0, soiled: false, names: 0 };
-        Blocks { first, pages, free: count, list: vec![block; count as usize] }
+        let block = Block {
+            state: State::Free,
+            wear: 0,
+            used: 0,
+            live: 0,
+            soiled: false,
+            names: 0,
+        };
+        Blocks {
+            first,
+            pages,
+            free: count,
+            list: vec![block; count as usize],
+        }
     }
 
     pub fn pages(&self) -> u32 {
@@ -96,8 +108,14 @@ impl Blocks {
 
     /// Takes the least worn Free block, of equals the first. There is one.
     pub fn take(&mut self, state: State) -> u32 {
-        let free = self.list.iter().enumerate().filter(|(_, block)| block.state == State::Free);
-        let (at, _) = free.min_by_key(|(_, block)| block.wear).expect("a Free block");
+        let free = self
+            .list
+            .iter()
+            .enumerate()
+            .filter(|(_, block)| block.state == State::Free);
+        let (at, _) = free
+            .min_by_key(|(_, block)| block.wear)
+            .expect("a Free block");
         let block = self.first + at as u32;
         self.set_state(block, state);
         self.at_mut(block).used = 0;
@@ -113,14 +131,24 @@ impl Blocks {
 
     /// The Sealed block with the most pages that are not live, of which it has some; of equals the first.
     pub fn most_dead(&self) -> Option<u32> {
-        let sealed = self.list.iter().enumerate().filter(|(_, it)| it.state == State::Sealed && it.live < self.pages);
-        sealed.min_by_key(|(_, block)| block.live).map(|(at, _)| self.first + at as u32)
+        let sealed = self
+            .list
+            .iter()
+            .enumerate()
+            .filter(|(_, it)| it.state == State::Sealed && it.live < self.pages);
+        sealed
+            .min_by_key(|(_, block)| block.live)
+            .map(|(at, _)| self.first + at as u32)
     }
 
     /// The least worn Sealed block, of equals the first, where some block is worn much more.
     pub fn coldest(&self) -> Option<u32> {
         let most = self.list.iter().map(|block| block.wear).max()?;
-        let sealed = self.list.iter().enumerate().filter(|(_, block)| block.state == State::Sealed);
+        let sealed = self
+            .list
+            .iter()
+            .enumerate()
+            .filter(|(_, block)| block.state == State::Sealed);
         let (at, least) = sealed.min_by_key(|(_, block)| block.wear)?;
         (most - least.wear >= COLD).then_some(self.first + at as u32)
     }

@@ -16,7 +16,9 @@ impl<'a> Path<'a> {
 
     /// The names, of which the root has none.
     pub fn names(self) -> impl Iterator<Item = &'a [u8]> {
-        self.0[1..].split(|byte| *byte == b'/').filter(|name| !name.is_empty())
+        self.0[1..]
+            .split(|byte| *byte == b'/')
+            .filter(|name| !name.is_empty())
     }
 
     /// The path without its last name, and that name.

@@ -53,7 +53,10 @@ impl Volume {
     /// Gives an index of a file a pointer, with a new page for its range where that has none. Gives the one that it had.
     pub fn put_pointer(&mut self, ino: u32, index: u32, to: Pointer) -> Pointer {
         if index < DIRECT {
-            let (bytes, at) = (self.meta.node_mut(ino), Node::POINTERS + Pointer::WIDTH * index as usize);
+            let (bytes, at) = (
+                self.meta.node_mut(ino),
+                Node::POINTERS + Pointer::WIDTH * index as usize,
+            );
             let had = Pointer::at(bytes, at);
             to.put(bytes, at);
             return had;
@@ -61,7 +64,11 @@ impl Volume {
         let address = self.meta.range_address(ino, index);
         if address == 0 {
             let fresh = self.shape.pool_at() + self.pool.take().expect("a free address");
-            put_u32(self.meta.node_mut(ino), Node::ADDRESSES + 4 * ((index - DIRECT) / SLOTS) as usize, fresh);
+            put_u32(
+                self.meta.node_mut(ino),
+                Node::ADDRESSES + 4 * ((index - DIRECT) / SLOTS) as usize,
+                fresh,
+            );
             to.put(self.meta.fresh(fresh), slot_at(index));
             return NONE;
         }
@@ -72,7 +79,11 @@ impl Volume {
     }
 
     fn tag(&self, ino: u32, index: u32) -> Tag {
-        Tag { ino, generation: self.meta.node(ino).generation(), index }
+        Tag {
+            ino,
+            generation: self.meta.node(ino).generation(),
+            index,
+        }
     }
 
     /// Reads the page of an index of a file into the page at hand, zeros where it has none. Whether it has one.
@@ -99,7 +110,9 @@ impl Volume {
         if (self.pool.count() as usize) < fresh {
             return Some(Refusal::NoSpaceMeta);
         }
-        let missing = (first..=last).filter(|index| self.meta.pointer(ino, *index).is_none()).count();
+        let missing = (first..=last)
+            .filter(|index| self.meta.pointer(ino, *index).is_none())
+            .count();
         (self.data as usize + missing > self.shape.cap as usize).then_some(Refusal::NoSpaceData)
     }
 
@@ -116,7 +129,10 @@ impl Volume {
         let (first, last) = ((from / PAGE) as u32, ((from + len - 1) / PAGE) as u32);
         let whole = from.div_ceil(PAGE) as u32..((from + len) / PAGE) as u32;
         for index in whole.clone() {
-            data.lay((u64::from(index) * PAGE - from) as usize, self.record.main_mut());
+            data.lay(
+                (u64::from(index) * PAGE - from) as usize,
+                self.record.main_mut(),
+            );
             self.program(self.tag(ino, index));
             self.background();
         }
@@ -159,7 +175,11 @@ impl Volume {
     /// Hands the bytes of a file from an offset on, at most so many, on in pieces.
     pub fn read(&mut self, path: Path, from: u64, len: u32, mut piece: impl FnMut(&[u8])) -> Done {
         let ino = self.find_file(path)?;
-        let end = self.meta.node(ino).size().min(from.saturating_add(u64::from(len)));
+        let end = self
+            .meta
+            .node(ino)
+            .size()
+            .min(from.saturating_add(u64::from(len)));
         let mut at = from;
         while at < end {
             self.read_page(ino, (at / PAGE) as u32);
@@ -199,7 +219,8 @@ impl Volume {
     /// The pages of a file from an index on await their free.
     pub fn gather(&mut self, ino: u32, from: u32) {
         let before = self.freeing.len();
-        self.meta.each_pointer(ino, from, |_, pointer| self.freeing.push(pointer));
+        self.meta
+            .each_pointer(ino, from, |_, pointer| self.freeing.push(pointer));
         self.data -= (self.freeing.len() - before) as u32;
     }
 
@@ -211,7 +232,11 @@ impl Volume {
             self.meta.node_mut(ino)[pointers].fill(0);
         } else {
             range = (from - DIRECT) / SLOTS;
-            let address = if range < 16 { self.meta.node(ino).address(range) } else { 0 };
+            let address = if range < 16 {
+                self.meta.node(ino).address(range)
+            } else {
+                0
+            };
             let slot = slot_at(from);
             if address != 0 && !is_zero(&self.meta.page(address)[..slot]) {
                 self.meta.page_mut(address)[slot..].fill(0);
@@ -222,7 +247,11 @@ impl Volume {
             let address = self.meta.node(ino).address(place);
             if address != 0 {
                 self.pool.give(address - self.shape.pool_at());
-                put_u32(self.meta.node_mut(ino), Node::ADDRESSES + 4 * place as usize, 0);
+                put_u32(
+                    self.meta.node_mut(ino),
+                    Node::ADDRESSES + 4 * place as usize,
+                    0,
+                );
             }
         }
     }

@@ -15,7 +15,10 @@ struct Held {
     stamp: u64,
 }
 
-const DEAD: Held = Held { tag: NO_TAG, stamp: 0 };
+const DEAD: Held = Held {
+    tag: NO_TAG,
+    stamp: 0,
+};
 
 /// Where an old name leads, and the callback of the move that made it one.
 #[derive(Clone, Copy)]
@@ -96,7 +99,13 @@ impl Files {
     pub fn load(&mut self, at: Pointer, tag: Tag, page: u32) {
         let block = page / self.blocks.pages();
         self.blocks.set_state(block, State::Sealed);
-        self.hold(page, Held { tag, stamp: at.stamp });
+        self.hold(
+            page,
+            Held {
+                tag,
+                stamp: at.stamp,
+            },
+        );
         if at.name == page {
             return;
         }
@@ -115,7 +124,16 @@ impl Files {
             self.moved.get_mut(&old).expect("an old name").to = to;
         }
         self.posted += 1;
-        self.moved.insert(name, Moved { to, tag, stamp, number: self.posted, transaction: 0 });
+        self.moved.insert(
+            name,
+            Moved {
+                to,
+                tag,
+                stamp,
+                number: self.posted,
+                transaction: 0,
+            },
+        );
         self.leading.insert((to, name));
         self.waiting.insert(self.posted, name);
         self.blocks.of_page(name).names += 1;
@@ -123,7 +141,10 @@ impl Files {
 
     /// The least old name that leads to a page.
     fn name_of(&self, page: u32) -> Option<u32> {
-        self.leading.range((page, 0)..=(page, u32::MAX)).next().map(|(_, old)| *old)
+        self.leading
+            .range((page, 0)..=(page, u32::MAX))
+            .next()
+            .map(|(_, old)| *old)
     }
 
     /// The name is no old one any more, and its callback is gone. A block that waited for it alone is Free.
@@ -146,7 +167,9 @@ impl Files {
 
     /// The page to which a pointer leads is dead, where it is live.
     pub fn free(&mut self, at: Pointer) {
-        let Some(page) = self.place_of(at) else { return };
+        let Some(page) = self.place_of(at) else {
+            return;
+        };
         while let Some(old) = self.name_of(page) {
             self.drop_name(old);
         }
@@ -156,11 +179,25 @@ impl Files {
     /// Reads the page to which a pointer leads.
     pub fn read(&self, image: &Image, at: Pointer, tag: Tag, into: &mut Record) {
         let page = self.place_of(at).unwrap_or_else(|| fail());
-        read_at(image, page, Held { tag, stamp: at.stamp }, into);
+        read_at(
+            image,
+            page,
+            Held {
+                tag,
+                stamp: at.stamp,
+            },
+            into,
+        );
     }
 
     /// Programs a page, and gives its name; none where a Free block is kept for the cleaner alone.
-    pub fn write(&mut self, image: &mut Image, tag: Tag, from: &mut Record, stamp: u64) -> Option<u32> {
+    pub fn write(
+        &mut self,
+        image: &mut Image,
+        tag: Tag,
+        from: &mut Record,
+        stamp: u64,
+    ) -> Option<u32> {
         if !self.blocks.has_next(self.active, State::Active) {
             if self.blocks.free() < 2 {
                 return None;
@@ -185,7 +222,11 @@ impl Files {
     fn program(&mut self, image: &mut Image, block: u32, held: Held, from: &mut Record) -> u32 {
         let wear = self.blocks.at(block).wear;
         let page = self.blocks.use_next(block);
-        from.set_spare(&Spare { owner: Owner::File(held.tag), stamp: held.stamp, wear });
+        from.set_spare(&Spare {
+            owner: Owner::File(held.tag),
+            stamp: held.stamp,
+            wear,
+        });
         image.program(page, from);
         self.hold(page, held);
         page
@@ -193,10 +234,17 @@ impl Files {
 
     /// Makes a Sealed block the victim: the coldest one, or that with the most dead pages.
     pub fn begin(&mut self, cold: bool) -> bool {
-        if self.victim.is_some() || self.pairs() > 2 * self.blocks.pages() as usize || self.blocks.free() == 0 {
+        if self.victim.is_some()
+            || self.pairs() > 2 * self.blocks.pages() as usize
+            || self.blocks.free() == 0
+        {
             return false;
         }
-        let block = if cold { self.blocks.coldest() } else { self.blocks.most_dead() };
+        let block = if cold {
+            self.blocks.coldest()
+        } else {
+            self.blocks.most_dead()
+        };
         let Some(block) = block else { return false };
         self.blocks.set_state(block, State::Victim);
         self.victim = Some(block);
@@ -211,7 +259,9 @@ impl Files {
         }
         let pages = self.blocks.pages();
         let live = |place: &u32| self.held(victim * pages + place).stamp != 0;
-        let place = (self.looked..pages).find(live).or_else(|| (0..self.looked).find(live))?;
+        let place = (self.looked..pages)
+            .find(live)
+            .or_else(|| (0..self.looked).find(live))?;
         self.looked = place;
         Some(victim * pages + place)
     }
@@ -220,8 +270,12 @@ impl Files {
     /// nothing to do.
     pub fn copy(&mut self, image: &mut Image, record: &mut Record) -> bool {
         let begun = self.begin(false);
-        let Some(victim) = self.victim else { return false };
-        let Some(before) = self.live_in(victim) else { return begun };
+        let Some(victim) = self.victim else {
+            return false;
+        };
+        let Some(before) = self.live_in(victim) else {
+            return begun;
+        };
         let held = self.held(before);
         read_at(image, before, held, record);
         if !self.blocks.has_next(self.target, State::Target) {
@@ -235,14 +289,17 @@ impl Files {
 
     /// Erases a victim that has no live page. It waits where old names stand in it.
     pub fn erase_victim(&mut self, image: &mut Image) -> bool {
-        let Some(victim) = self.victim else { return false };
+        let Some(victim) = self.victim else {
+            return false;
+        };
         if self.blocks.at(victim).live != 0 {
             return false;
         }
         image.erase(victim);
         self.blocks.erased(victim);
         let waits = self.blocks.at(victim).names != 0;
-        self.blocks.set_state(victim, if waits { State::Waiting } else { State::Free });
+        self.blocks
+            .set_state(victim, if waits { State::Waiting } else { State::Free });
         self.victim = None;
         true
     }
@@ -264,7 +321,12 @@ impl Files {
     /// Ends the callbacks that transactions up to this one handled, and their old names.
     pub fn acknowledge(&mut self, upto: u64) {
         let over = |moved: &Moved| moved.transaction != 0 && moved.transaction <= upto;
-        let names: Vec<u32> = self.moved.iter().filter(|(_, moved)| over(moved)).map(|(name, _)| *name).collect();
+        let names: Vec<u32> = self
+            .moved
+            .iter()
+            .filter(|(_, moved)| over(moved))
+            .map(|(name, _)| *name)
+            .collect();
         names.into_iter().for_each(|name| self.drop_name(name));
     }
 }

@@ -11,7 +11,11 @@ pub struct FreeSet {
 impl FreeSet {
     /// So many numbers, each of them free.
     pub fn new(count: u32) -> FreeSet {
-        let mut free = FreeSet { words: vec![0; count.div_ceil(64) as usize], from: 0, count: 0 };
+        let mut free = FreeSet {
+            words: vec![0; count.div_ceil(64) as usize],
+            from: 0,
+            count: 0,
+        };
         (0..count).for_each(|number| free.give(number));
         free
     }

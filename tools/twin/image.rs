@@ -66,7 +66,11 @@ fn header(blocks: u32, pages: u32) -> [u8; HEADER] {
 impl Image {
     /// The medium in a file with its numbers, if it was formed.
     pub fn open(path: &str) -> Option<(Image, Shape)> {
-        let file = OpenOptions::new().read(true).write(true).open(path).unwrap_or_else(|_| fail());
+        let file = OpenOptions::new()
+            .read(true)
+            .write(true)
+            .open(path)
+            .unwrap_or_else(|_| fail());
         let mut bytes = [0; HEADER];
         file.read_exact_at(&mut bytes, 0).ok()?;
         let (blocks, pages) = (u32_at(&bytes, 12), u32_at(&bytes, 16));
@@ -76,16 +80,29 @@ impl Image {
 
     /// Forms a medium of these numbers, whose pages are erased.
     pub fn form(path: &str, shape: &Shape) -> Image {
-        let options = OpenOptions::new().read(true).write(true).create(true).truncate(false).open(path);
+        let options = OpenOptions::new()
+            .read(true)
+            .write(true)
+            .create(true)
+            .truncate(false)
+            .open(path);
         let file = options.unwrap_or_else(|_| fail());
-        let resized = file.set_len(0).and_then(|()| file.set_len(position(shape.blocks * shape.pages)));
-        let formed = resized.and_then(|()| file.write_all_at(&header(shape.blocks, shape.pages), 0));
+        let resized = file
+            .set_len(0)
+            .and_then(|()| file.set_len(position(shape.blocks * shape.pages)));
+        let formed =
+            resized.and_then(|()| file.write_all_at(&header(shape.blocks, shape.pages), 0));
         formed.unwrap_or_else(|_| fail());
-        Image { file, pages: shape.pages }
+        Image {
+            file,
+            pages: shape.pages,
+        }
     }
 
     pub fn read(&self, page: u32, into: &mut Record) -> Found {
-        self.file.read_exact_at(&mut into.0[..], position(page)).unwrap_or_else(|_| fail());
+        self.file
+            .read_exact_at(&mut into.0[..], position(page))
+            .unwrap_or_else(|_| fail());
         match u64::from_le_bytes(into.0[..STATE].try_into().unwrap()) {
             0 => Found::Erased,
             1 => Found::Written,
@@ -97,14 +114,18 @@ impl Image {
     pub fn program(&mut self, page: u32, from: &Record) {
         let at = position(page);
         let bytes = self.file.write_all_at(&from.0[STATE..], at + STATE as u64);
-        bytes.and_then(|()| self.file.write_all_at(&1u64.to_le_bytes(), at)).unwrap_or_else(|_| fail());
+        bytes
+            .and_then(|()| self.file.write_all_at(&1u64.to_le_bytes(), at))
+            .unwrap_or_else(|_| fail());
     }
 
     /// Erases the pages of a block, from the first one on.
     pub fn erase(&mut self, block: u32) {
         let erased = [0; BYTES];
         for page in block * self.pages..(block + 1) * self.pages {
-            self.file.write_all_at(&erased, position(page)).unwrap_or_else(|_| fail());
+            self.file
+                .write_all_at(&erased, position(page))
+                .unwrap_or_else(|_| fail());
         }
     }
 }

@@ -45,7 +45,11 @@ pub fn fail() -> ! {
 /// Ends the process with a text.
 fn end(text: &[u8], status: i32) -> ! {
     let printed = std::io::stdout().lock().write_all(text);
-    exit(if printed.is_err() && status == 0 { 4 } else { status })
+    exit(if printed.is_err() && status == 0 {
+        4
+    } else {
+        status
+    })
 }
 
 /// Makes a volume: the root's page of nodes, and the super page.
@@ -53,19 +57,31 @@ fn format(path: &str, shape: &Shape) {
     let mut image = Image::form(path, shape);
     let mut record = Record::new();
     record.main_mut()[0] = DIR;
-    record.set_spare(&Spare { owner: Owner::Address(NODES_AT), stamp: 1, wear: 0 });
+    record.set_spare(&Spare {
+        owner: Owner::Address(NODES_AT),
+        stamp: 1,
+        wear: 0,
+    });
     image.program(0, &record);
     put_super(record.main_mut(), shape, 0);
-    record.set_spare(&Spare { owner: Owner::Address(0), stamp: 2, wear: 0 });
+    record.set_spare(&Spare {
+        owner: Owner::Address(0),
+        stamp: 2,
+        wear: 0,
+    });
     image.program(1, &record);
 }
 
 fn opened(path: &str) -> Volume {
-    let Some((image, shape)) = Image::open(path) else { end(b"blank\n", 7) };
+    let Some((image, shape)) = Image::open(path) else {
+        end(b"blank\n", 7)
+    };
     match open(image, shape) {
         Ok(volume) => volume,
         Err(NotOpened::Blank) => end(b"blank\n", 7),
-        Err(NotOpened::Damaged(place, what)) => end(format!("damaged {place} {what}\n").as_bytes(), 7),
+        Err(NotOpened::Damaged(place, what)) => {
+            end(format!("damaged {place} {what}\n").as_bytes(), 7)
+        }
     }
 }
 
@@ -77,7 +93,9 @@ fn run(path: &str) -> Vec<u8> {
     }
     let lines = match script::lines(&script) {
         Ok(lines) => lines,
-        Err(script::Refused(line, column, why)) => end(format!("script {line} {column} {why}\n").as_bytes(), 2),
+        Err(script::Refused(line, column, why)) => {
+            end(format!("script {line} {column} {why}\n").as_bytes(), 2)
+        }
     };
     let mut volume = opened(path);
     let mut text = format!("opened {}\n", volume.count).into_bytes();
@@ -120,13 +138,28 @@ fn tree_under(volume: &Volume, ino: u32, path: &mut Vec<u8>, text: &mut Vec<u8>)
 fn main() {
     let words: Vec<String> = std::env::args().skip(1).collect();
     let words: Vec<&str> = words.iter().map(String::as_str).collect();
-    let number = |word: &str| script::number(word.as_bytes()).ok().and_then(|number| u32::try_from(number).ok());
+    let number = |word: &str| {
+        script::number(word.as_bytes())
+            .ok()
+            .and_then(|number| u32::try_from(number).ok())
+    };
     match words[..] {
         [image, "format", blocks, pages] => {
-            let numbers = number(blocks).zip(number(pages)).and_then(|(blocks, pages)| Shape::of(blocks, pages));
-            let Some(shape) = numbers else { end(b"words\n", 2) };
+            let numbers = number(blocks)
+                .zip(number(pages))
+                .and_then(|(blocks, pages)| Shape::of(blocks, pages));
+            let Some(shape) = numbers else {
+                end(b"words\n", 2)
+            };
             format(image, &shape);
-            let Shape { blocks, pages, nodes, meta, cap, .. } = shape;
+            let Shape {
+                blocks,
+                pages,
+                nodes,
+                meta,
+                cap,
+                ..
+            } = shape;
             end(format!("formatted blocks {blocks} pages {pages} data {cap} nodes {nodes} meta {meta}\n").as_bytes(), 0)
         }
         [image, "run"] => end(&run(image), 0),

@@ -23,7 +23,12 @@ impl Meta {
     /// No page of so many addresses.
     pub fn new(vaddrs: u32) -> Meta {
         let pages = (0..vaddrs).map(|_| None).collect();
-        Meta { pages, dirty: Vec::new(), frozen: Vec::new(), images: Vec::new() }
+        Meta {
+            pages,
+            dirty: Vec::new(),
+            frozen: Vec::new(),
+            images: Vec::new(),
+        }
     }
 
     pub fn is_resident(&self, address: u32) -> bool {
@@ -69,7 +74,9 @@ impl Meta {
         std::mem::swap(&mut self.frozen, &mut self.dirty);
         self.dirty.clear();
         for place in 0..self.frozen.len() {
-            let page = self.pages[self.frozen[place] as usize].as_deref().unwrap_or(&ZEROS);
+            let page = self.pages[self.frozen[place] as usize]
+                .as_deref()
+                .unwrap_or(&ZEROS);
             if place == self.images.len() {
                 self.images.push(Record::new());
             }
@@ -133,7 +140,10 @@ impl Meta {
         if address == 0 {
             return crate::numbers::NONE;
         }
-        Pointer::at(self.page(address), Pointer::WIDTH * ((index - DIRECT) % SLOTS) as usize)
+        Pointer::at(
+            self.page(address),
+            Pointer::WIDTH * ((index - DIRECT) % SLOTS) as usize,
+        )
     }
 
     /// The pointers of a file from an index on, with their indexes.

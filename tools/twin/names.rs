@@ -31,14 +31,21 @@ fn refused(as_kind: u8, node: Node) -> Done {
 impl Volume {
     /// The address of the page of an entry's place in a directory, and where it stands there.
     fn entry_at(&self, dir: u32, place: u32) -> (u32, usize) {
-        (self.meta.node(dir).address(place / ENTRIES), Entry::WIDTH * (place % ENTRIES) as usize)
+        (
+            self.meta.node(dir).address(place / ENTRIES),
+            Entry::WIDTH * (place % ENTRIES) as usize,
+        )
     }
 
     /// The entries of a directory, in their order.
     fn entries(&self, dir: u32) -> impl Iterator<Item = Entry<'_>> {
         let node = self.meta.node(dir);
-        let pages = (0..node.size().div_ceil(u64::from(ENTRIES)) as u32).map(move |row| self.meta.page(node.address(row)));
-        pages.flat_map(|page| page.chunks_exact(Entry::WIDTH)).take(node.size() as usize).map(Entry)
+        let pages = (0..node.size().div_ceil(u64::from(ENTRIES)) as u32)
+            .map(move |row| self.meta.page(node.address(row)));
+        pages
+            .flat_map(|page| page.chunks_exact(Entry::WIDTH))
+            .take(node.size() as usize)
+            .map(Entry)
     }
 
     /// The entries of a directory in the order of their names.
@@ -50,8 +57,15 @@ impl Volume {
 
     /// The entry of a name in a directory.
     fn look(&self, dir: u32, name: &[u8]) -> Option<Spot> {
-        let (place, entry) = self.entries(dir).enumerate().find(|(_, entry)| entry.name() == name)?;
-        Some(Spot { place: place as u32, ino: entry.ino(), generation: entry.generation() })
+        let (place, entry) = self
+            .entries(dir)
+            .enumerate()
+            .find(|(_, entry)| entry.name() == name)?;
+        Some(Spot {
+            place: place as u32,
+            ino: entry.ino(),
+            generation: entry.generation(),
+        })
     }
 
     /// The node to which a path leads.
@@ -106,7 +120,11 @@ impl Volume {
         if place % ENTRIES == 0 {
             let fresh = self.shape.pool_at() + self.pool.take().expect("a free address");
             self.meta.fresh(fresh);
-            put_u32(self.meta.node_mut(dir), Node::ADDRESSES + 4 * (place / ENTRIES) as usize, fresh);
+            put_u32(
+                self.meta.node_mut(dir),
+                Node::ADDRESSES + 4 * (place / ENTRIES) as usize,
+                fresh,
+            );
         }
         let (address, at) = self.entry_at(dir, place);
         self.meta.page_mut(address)[at..at + Entry::WIDTH].copy_from_slice(bytes);
@@ -124,7 +142,11 @@ impl Volume {
             self.meta.page_mut(address)[at..at + Entry::WIDTH].copy_from_slice(&bytes);
         }
         if last % ENTRIES == 0 {
-            put_u32(self.meta.node_mut(dir), Node::ADDRESSES + 4 * (last / ENTRIES) as usize, 0);
+            put_u32(
+                self.meta.node_mut(dir),
+                Node::ADDRESSES + 4 * (last / ENTRIES) as usize,
+                0,
+            );
             self.pool.give(address - self.shape.pool_at());
         } else {
             self.meta.page_mut(address)[at..at + Entry::WIDTH].fill(0);
@@ -137,7 +159,10 @@ impl Volume {
         if self.meta.node(ino).kind() == FILE {
             self.gather(ino, 0);
         }
-        let (addresses, generation) = (self.meta.node(ino).addresses(), self.meta.node(ino).generation());
+        let (addresses, generation) = (
+            self.meta.node(ino).addresses(),
+            self.meta.node(ino).generation(),
+        );
         let bytes = self.meta.node_mut(ino);
         bytes.fill(0);
         put_u32(bytes, 4, generation);
@@ -187,7 +212,11 @@ impl Volume {
             return Err(Refusal::NameTooLong);
         }
         if path.is_root() {
-            return Err(if kind == DIR { Refusal::Invalid } else { Refusal::IsDirectory });
+            return Err(if kind == DIR {
+                Refusal::Invalid
+            } else {
+                Refusal::IsDirectory
+            });
         }
         let (dir, _, found) = self.locate(path)?;
         let spot = found.ok_or(Refusal::NotThere)?;
@@ -207,7 +236,11 @@ impl Volume {
             return Err(Refusal::Invalid);
         }
         let (old_dir, old_name, old) = self.locate(from)?;
-        let Spot { place, ino, generation } = old.ok_or(Refusal::NotThere)?;
+        let Spot {
+            place,
+            ino,
+            generation,
+        } = old.ok_or(Refusal::NotThere)?;
         if from.0 == to.0 {
             return Ok(());
         }

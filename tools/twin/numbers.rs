@@ -36,7 +36,10 @@ pub struct Shape {
 impl Shape {
     /// The numbers that follow from these two, if they are legal.
     pub fn of(blocks: u32, pages: u32) -> Option<Shape> {
-        if !(32..=4096).contains(&blocks) || !(32..=256).contains(&pages) || blocks * pages > 262_144 {
+        if !(32..=4096).contains(&blocks)
+            || !(32..=256).contains(&pages)
+            || blocks * pages > 262_144
+        {
             return None;
         }
         let nodes = blocks * pages / 16;
@@ -46,7 +49,17 @@ impl Shape {
         let vblocks = vaddrs.div_ceil(pages) + 4;
         let pblocks = blocks - vblocks;
         let cap = (pblocks - 4) * pages - 160;
-        Some(Shape { blocks, pages, nodes, inode_pages, meta, vaddrs, vblocks, pblocks, cap })
+        Some(Shape {
+            blocks,
+            pages,
+            nodes,
+            inode_pages,
+            meta,
+            vaddrs,
+            vblocks,
+            pblocks,
+            cap,
+        })
     }
 
     /// The first address of the metadata pool.
@@ -97,7 +110,10 @@ impl Pointer {
     pub const WIDTH: usize = 16;
 
     pub fn at(bytes: &[u8], at: usize) -> Pointer {
-        Pointer { name: u32_at(bytes, at), stamp: u64_at(bytes, at + 8) }
+        Pointer {
+            name: u32_at(bytes, at),
+            stamp: u64_at(bytes, at + 8),
+        }
     }
 
     pub fn put(self, bytes: &mut [u8], at: usize) {
@@ -114,10 +130,15 @@ impl Pointer {
     pub fn spelled(bytes: &[u8], at: usize, shape: &Shape) -> Option<Pointer> {
         let pointer = Pointer::at(bytes, at);
         if pointer == NONE {
-            return if u32_at(bytes, at + 4) == 0 { Some(NONE) } else { None };
+            return if u32_at(bytes, at + 4) == 0 {
+                Some(NONE)
+            } else {
+                None
+            };
         }
         let names = shape.files_at()..shape.blocks * shape.pages;
-        let fits = is_stamp(pointer.stamp) && names.contains(&pointer.name) && u32_at(bytes, at + 4) == 0;
+        let fits =
+            is_stamp(pointer.stamp) && names.contains(&pointer.name) && u32_at(bytes, at + 4) == 0;
         fits.then_some(pointer)
     }
 }
@@ -130,7 +151,11 @@ pub struct Tag {
     pub index: u32,
 }
 
-pub const NO_TAG: Tag = Tag { ino: 0, generation: 0, index: 0 };
+pub const NO_TAG: Tag = Tag {
+    ino: 0,
+    generation: 0,
+    index: 0,
+};
 
 /// What a page is the page of.
 #[derive(Clone, Copy, PartialEq, Eq)]
@@ -154,7 +179,11 @@ impl Spare {
         let (owner, end) = match bytes[0] {
             1 => (Owner::Address(first), 20),
             2 => {
-                let tag = Tag { ino: first, generation: u32_at(bytes, 20), index: u32_at(bytes, 24) };
+                let tag = Tag {
+                    ino: first,
+                    generation: u32_at(bytes, 20),
+                    index: u32_at(bytes, 24),
+                };
                 (Owner::File(tag), 28)
             }
             _ => return None,
@@ -197,7 +226,12 @@ pub fn put_super(main: &mut [u8], shape: &Shape, count: u64) {
 /// The count of calls on a super page of this volume.
 pub fn super_count(main: &[u8], shape: &Shape) -> Option<u64> {
     let count = u64_at(main, 24);
-    let numbers = [u32_at(main, 8), u32_at(main, 12), u32_at(main, 16), u32_at(main, 20)];
+    let numbers = [
+        u32_at(main, 8),
+        u32_at(main, 12),
+        u32_at(main, 16),
+        u32_at(main, 20),
+    ];
     let fits = &main[..8] == b"NAMELESS" && numbers == [1, shape.blocks, shape.pages, 0];
     (fits && count <= LAST && is_zero(&main[32..])).then_some(count)
 }
@@ -216,12 +250,20 @@ pub fn put_header(main: &mut [u8], number: u64, addresses: &[u32]) {
 /// Number and addresses of a header of a volume with so many addresses.
 pub fn header_of(main: &[u8], vaddrs: u32) -> Option<(u64, Vec<u32>)> {
     let (number, count) = (u64_at(main, 8), u32_at(main, 16) as usize);
-    if &main[..8] != b"NLHEADER" || !is_stamp(number) || !(1..=64).contains(&count) || u32_at(main, 20) != 0 {
+    if &main[..8] != b"NLHEADER"
+        || !is_stamp(number)
+        || !(1..=64).contains(&count)
+        || u32_at(main, 20) != 0
+    {
         return None;
     }
-    let addresses: Vec<u32> = (0..count).map(|place| u32_at(main, 24 + 4 * place)).collect();
+    let addresses: Vec<u32> = (0..count)
+        .map(|place| u32_at(main, 24 + 4 * place))
+        .collect();
     let rise = addresses.windows(2).all(|two| two[0] < two[1]);
-    let home = addresses.iter().all(|at| *at == 0 || (NODES_AT..vaddrs).contains(at));
+    let home = addresses
+        .iter()
+        .all(|at| *at == 0 || (NODES_AT..vaddrs).contains(at));
     (rise && home && is_zero(&main[24 + 4 * count..])).then_some((number, addresses))
 }
 
@@ -287,7 +329,9 @@ impl Node<'_> {
         match self.kind() {
             UNUSED => is_zero(&bytes[8..]),
             FILE => {
-                let spelled = |at| Pointer::spelled(bytes, Node::POINTERS + Pointer::WIDTH * at, shape).is_some();
+                let spelled = |at| {
+                    Pointer::spelled(bytes, Node::POINTERS + Pointer::WIDTH * at, shape).is_some()
+                };
                 self.size() <= MOST && (0..DIRECT as usize).all(spelled)
             }
             DIR => {
@@ -326,7 +370,11 @@ impl<'a> Entry<'a> {
             return false;
         }
         let name = self.name();
-        name != b"." && name != b".." && name.iter().all(|byte| *byte > 0x20 && *byte != 0x7f && *byte != b'/')
+        name != b"."
+            && name != b".."
+            && name
+                .iter()
+                .all(|byte| *byte > 0x20 && *byte != 0x7f && *byte != b'/')
     }
 }
 

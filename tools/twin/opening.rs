@@ -7,8 +7,8 @@ use crate::free::FreeSet;
 use crate::image::{Image, Record};
 use crate::meta::Meta;
 use crate::numbers::{
-    commit_of, header_of, is_zero, super_count, Entry, Pointer, Shape, Tag, DIR, FILE, MAIN, NODES_AT, SLOTS,
-    UNUSED,
+    commit_of, header_of, is_zero, super_count, Entry, Pointer, Shape, Tag, DIR, FILE, MAIN,
+    NODES_AT, SLOTS, UNUSED,
 };
 use crate::scan::{scan, Scan};
 use crate::virtuals::{Virtuals, NOWHERE};
@@ -41,7 +41,11 @@ pub fn open(image: Image, shape: Shape) -> Result<Volume, NotOpened> {
     let mut meta = Meta::new(shape.vaddrs);
     let journal = bring_back(&image, &shape, &virtuals, &mut meta);
     load(&image, &shape, &virtuals, &mut meta);
-    let mut walk = Walk { shape: &shape, meta: &meta, scan: &mut scan };
+    let mut walk = Walk {
+        shape: &shape,
+        meta: &meta,
+        scan: &mut scan,
+    };
     let held = walk.first_fault()?;
     let count = super_count(meta.page(0), &shape).unwrap_or(0);
     let (nodes, pool) = free_sets(&shape, &meta);
@@ -82,8 +86,14 @@ fn open_virtuals(shape: &Shape, scan: &Scan) -> Virtuals {
     let mut virtuals = Virtuals::new(shape);
     soil(&mut virtuals.blocks, scan);
     virtuals.places = scan.places();
-    for place in virtuals.places.iter().filter(|place| place.page != NOWHERE.page) {
-        virtuals.blocks.set_state(place.page / shape.pages, State::Sealed);
+    for place in virtuals
+        .places
+        .iter()
+        .filter(|place| place.page != NOWHERE.page)
+    {
+        virtuals
+            .blocks
+            .set_state(place.page / shape.pages, State::Sealed);
     }
     virtuals
 }
@@ -102,12 +112,24 @@ fn open_files(shape: &Shape, scan: &Scan, held: &[(Pointer, Tag)]) -> Files {
 /// Brings the transaction back that counts, if one does: its images become the running pages, and are to be copied home.
 fn bring_back(image: &Image, shape: &Shape, virtuals: &Virtuals, meta: &mut Meta) -> Journal {
     let mut record = Record::new();
-    let mut read = |address: u32| virtuals.read(image, address, &mut record).then(|| record.main().to_vec());
+    let mut read = |address: u32| {
+        virtuals
+            .read(image, address, &mut record)
+            .then(|| record.main().to_vec())
+    };
     let header = read(1).and_then(|main| header_of(&main, shape.vaddrs));
     let commit = read(66).and_then(|main| commit_of(&main));
-    let number = header.as_ref().map_or(0, |(number, _)| *number).max(commit.unwrap_or(0));
-    let nothing = Journal { number, due: Due::Header };
-    let Some((_, addresses)) = header.filter(|(number, _)| Some(*number) == commit) else { return nothing };
+    let number = header
+        .as_ref()
+        .map_or(0, |(number, _)| *number)
+        .max(commit.unwrap_or(0));
+    let nothing = Journal {
+        number,
+        due: Due::Header,
+    };
+    let Some((_, addresses)) = header.filter(|(number, _)| Some(*number) == commit) else {
+        return nothing;
+    };
     for (place, address) in addresses.into_iter().enumerate() {
         let mut image_page = Record::new();
         if !virtuals.read(image, 2 + place as u32, &mut image_page) {
@@ -116,7 +138,10 @@ fn bring_back(image: &Image, shape: &Shape, virtuals: &Virtuals, meta: &mut Meta
         }
         meta.restore(address, image_page);
     }
-    Journal { number, due: Due::Home(0) }
+    Journal {
+        number,
+        due: Due::Home(0),
+    }
 }
 
 /// Reads the pages at which the walk looks: the super page, the pages of nodes, and those of the pool that used nodes name.
@@ -142,7 +167,9 @@ fn load(image: &Image, shape: &Shape, virtuals: &Virtuals, meta: &mut Meta) {
 fn used_nodes(shape: &Shape, meta: &Meta) -> Vec<u32> {
     let pages = (0..shape.inode_pages).filter(|page| meta.is_resident(NODES_AT + page));
     let nodes = pages.flat_map(|page| 16 * page..16 * page + 16);
-    nodes.filter(|ino| *ino < shape.nodes && meta.node(*ino).kind() != UNUSED).collect()
+    nodes
+        .filter(|ino| *ino < shape.nodes && meta.node(*ino).kind() != UNUSED)
+        .collect()
 }
 
 /// The free nodes, and the free addresses of the pool.
@@ -150,7 +177,12 @@ fn free_sets(shape: &Shape, meta: &Meta) -> (FreeSet, FreeSet) {
     let (mut nodes, mut pool) = (FreeSet::new(shape.nodes), FreeSet::new(shape.meta));
     for ino in used_nodes(shape, meta) {
         nodes.put_to_use(ino);
-        for address in meta.node(ino).addresses().into_iter().filter(|address| *address != 0) {
+        for address in meta
+            .node(ino)
+            .addresses()
+            .into_iter()
+            .filter(|address| *address != 0)
+        {
             pool.put_to_use(address - shape.pool_at());
         }
     }
@@ -172,8 +204,13 @@ fn are_pointers(shape: &Shape, page: &[u8]) -> bool {
 impl<'a> Walk<'a> {
     /// Goes through all phases. The pointers of all files with their tags, in the order of nodes and indexes.
     fn first_fault(&mut self) -> Result<Vec<(Pointer, Tag)>, NotOpened> {
-        let at = |place: Fault, what| place.map_or(Ok(()), |place| Err(NotOpened::Damaged(u64::from(place), what)));
-        let is_super = self.meta.is_resident(0) && super_count(self.meta.page(0), self.shape).is_some();
+        let at = |place: Fault, what| {
+            place.map_or(Ok(()), |place| {
+                Err(NotOpened::Damaged(u64::from(place), what))
+            })
+        };
+        let is_super =
+            self.meta.is_resident(0) && super_count(self.meta.page(0), self.shape).is_some();
         at((!is_super).then_some(0), "super")?;
         at(self.scan.stamp_fault(), "stamp")?;
         at(self.inode_fault(), "inode")?;
@@ -183,7 +220,12 @@ impl<'a> Walk<'a> {
         let held = self.pointers(&used);
         at(self.pointer_fault(&held), "pointer")?;
         let owns = |at: &Pointer, scan: &Scan| [at.stamp, 0].contains(&scan.stamp_of(at.name));
-        at(held.iter().find(|(at, _)| !owns(at, self.scan)).map(|(at, _)| at.name), "names")?;
+        at(
+            held.iter()
+                .find(|(at, _)| !owns(at, self.scan))
+                .map(|(at, _)| at.name),
+            "names",
+        )?;
         at((self.shape.cap < held.len() as u32).then_some(0), "charges")?;
         at(self.crowded_fault(&held), "crowded")?;
         Ok(held)
@@ -198,8 +240,11 @@ impl<'a> Walk<'a> {
             }
             !node.is_spelled(shape) || *ino == 0 && node.kind() != DIR
         };
-        let pages = (0..shape.inode_pages).filter(|page| *page == 0 || meta.is_resident(NODES_AT + page));
-        pages.flat_map(|page| 16 * page..16 * page + 16).find(is_bad)
+        let pages =
+            (0..shape.inode_pages).filter(|page| *page == 0 || meta.is_resident(NODES_AT + page));
+        pages
+            .flat_map(|page| 16 * page..16 * page + 16)
+            .find(is_bad)
     }
 
     fn pages_fault(&self, used: &[u32]) -> Fault {
@@ -209,7 +254,10 @@ impl<'a> Walk<'a> {
             let node = meta.node(*ino);
             for address in node.addresses().into_iter().filter(|address| *address != 0) {
                 let in_pool = (shape.pool_at()..shape.vaddrs).contains(&address);
-                if !in_pool || std::mem::replace(&mut seen[address as usize], true) || !meta.is_resident(address) {
+                if !in_pool
+                    || std::mem::replace(&mut seen[address as usize], true)
+                    || !meta.is_resident(address)
+                {
                     return Some(address);
                 }
                 if node.kind() == FILE && !are_pointers(shape, meta.page(address)) {
@@ -224,14 +272,20 @@ impl<'a> Walk<'a> {
     fn places(&self, dir: u32) -> impl Iterator<Item = &'a [u8]> {
         let meta = self.meta;
         let rows = meta.node(dir).size().div_ceil(64) as u32;
-        (0..rows).flat_map(move |row| meta.page(meta.node(dir).address(row)).chunks_exact(Entry::WIDTH))
+        (0..rows).flat_map(move |row| {
+            meta.page(meta.node(dir).address(row))
+                .chunks_exact(Entry::WIDTH)
+        })
     }
 
     /// The first directory with an entry at fault, or else the first node that no chain of entries reaches.
     fn entry_fault(&self, used: &[u32]) -> Fault {
         let mut named = vec![false; self.shape.nodes as usize];
         let mut names = HashSet::new();
-        let dirs = || used.iter().filter(|ino| self.meta.node(**ino).kind() == DIR);
+        let dirs = || {
+            used.iter()
+                .filter(|ino| self.meta.node(**ino).kind() == DIR)
+        };
         for dir in dirs() {
             names.clear();
             let size = self.meta.node(*dir).size() as usize;
@@ -279,9 +333,21 @@ impl<'a> Walk<'a> {
 
     fn pointers(&self, used: &[u32]) -> Vec<(Pointer, Tag)> {
         let mut held = Vec::new();
-        for ino in used.iter().filter(|ino| self.meta.node(**ino).kind() == FILE) {
+        for ino in used
+            .iter()
+            .filter(|ino| self.meta.node(**ino).kind() == FILE)
+        {
             let generation = self.meta.node(*ino).generation();
-            self.meta.each_pointer(*ino, 0, |index, at| held.push((at, Tag { ino: *ino, generation, index })));
+            self.meta.each_pointer(*ino, 0, |index, at| {
+                held.push((
+                    at,
+                    Tag {
+                        ino: *ino,
+                        generation,
+                        index,
+                    },
+                ))
+            });
         }
         held
     }
@@ -306,7 +372,10 @@ impl<'a> Walk<'a> {
         if self.scan.file_spare().is_none() {
             return Some(1);
         }
-        let lost = held.iter().filter(|(at, _)| self.scan.stamp_of(at.name) != at.stamp).count();
+        let lost = held
+            .iter()
+            .filter(|(at, _)| self.scan.stamp_of(at.name) != at.stamp)
+            .count();
         (lost > 3 * self.shape.pages as usize).then_some(2)
     }
 }

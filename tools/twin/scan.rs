@@ -18,11 +18,15 @@ impl Hasher for Spread {
     }
 
     fn write(&mut self, bytes: &[u8]) {
-        bytes.iter().for_each(|byte| self.write_u64(u64::from(*byte)));
+        bytes
+            .iter()
+            .for_each(|byte| self.write_u64(u64::from(*byte)));
     }
 
     fn write_u64(&mut self, number: u64) {
-        self.0 = (self.0.rotate_left(5) ^ number).wrapping_mul(0x9e37_79b9_7f4a_7c15).rotate_left(26);
+        self.0 = (self.0.rotate_left(5) ^ number)
+            .wrapping_mul(0x9e37_79b9_7f4a_7c15)
+            .rotate_left(26);
     }
 }
 
@@ -70,7 +74,10 @@ fn zeros_of(main: &[u8]) -> u32 {
     while end > 0 && main[end - 64..end].iter().all(|byte| *byte == 0) {
         end -= 64;
     }
-    main[..end].iter().rposition(|byte| *byte != 0).map_or(0, |at| at as u32 + 1)
+    main[..end]
+        .iter()
+        .rposition(|byte| *byte != 0)
+        .map_or(0, |at| at as u32 + 1)
 }
 
 /// Reads all pages, in rising order. One whose number came before in its segment is compared with the first of these, which
@@ -96,7 +103,9 @@ pub fn scan(image: &Image, shape: &Shape) -> Scan {
         }
         let block = &mut scan.blocks[(page / shape.pages) as usize];
         block.0 = true;
-        let Some(spare) = record.spare().filter(|_| found == Found::Written) else { continue };
+        let Some(spare) = record.spare().filter(|_| found == Found::Written) else {
+            continue;
+        };
         block.1 = block.1.max(spare.wear);
         scan.readable += 1;
         scan.greatest = scan.greatest.max(spare.stamp);
@@ -106,11 +115,22 @@ pub fn scan(image: &Image, shape: &Shape) -> Scan {
 }
 
 impl Scan {
-    fn note(&mut self, image: &Image, page: u32, spare: Spare, record: &Record, other: &mut Record) {
+    fn note(
+        &mut self,
+        image: &Image,
+        page: u32,
+        spare: Spare,
+        record: &Record,
+        other: &mut Record,
+    ) {
         let is_virtual = page < self.shape.files_at();
         let (by_stamp, apart) = match spare.owner {
             Owner::Address(address) if is_virtual && address < self.shape.vaddrs => {
-                self.virtuals.push(Own { page, address, stamp: spare.stamp });
+                self.virtuals.push(Own {
+                    page,
+                    address,
+                    stamp: spare.stamp,
+                });
                 (&mut self.virtual_stamps, &mut self.virtual_apart)
             }
             Owner::File(_) if !is_virtual => {
@@ -121,8 +141,18 @@ impl Scan {
         };
         match by_stamp.entry(spare.stamp) {
             Entry::Vacant(place) => {
-                let zeros = if is_virtual { 0 } else { zeros_of(record.main()) };
-                place.insert(Copies { first: page, apart: NO_PAGE, owner: spare.owner, zeros, taken: false });
+                let zeros = if is_virtual {
+                    0
+                } else {
+                    zeros_of(record.main())
+                };
+                place.insert(Copies {
+                    first: page,
+                    apart: NO_PAGE,
+                    owner: spare.owner,
+                    zeros,
+                    taken: false,
+                });
             }
             Entry::Occupied(mut place) => {
                 let copies = place.get_mut();
@@ -130,7 +160,9 @@ impl Scan {
                 if !read || copies.owner != spare.owner || other.main() != record.main() {
                     apart.get_or_insert(page);
                 }
-                if copies.apart == NO_PAGE && page / self.shape.pages != copies.first / self.shape.pages {
+                if copies.apart == NO_PAGE
+                    && page / self.shape.pages != copies.first / self.shape.pages
+                {
                     copies.apart = page;
                 }
             }
@@ -149,7 +181,9 @@ impl Scan {
             let most: &mut u64 = &mut greatest[own.address as usize];
             *most = own.stamp.max(*most);
         }
-        self.virtuals.iter().filter(move |own| own.stamp == greatest[own.address as usize])
+        self.virtuals
+            .iter()
+            .filter(move |own| own.stamp == greatest[own.address as usize])
     }
 
     /// The least block of the virtual segment without which each address has its newest page.
@@ -157,8 +191,15 @@ impl Scan {
         const SEVERAL: u32 = NO_PAGE - 1;
         let mut blocks = vec![NO_PAGE; self.shape.vaddrs as usize];
         for own in self.newest() {
-            let (at, block) = (&mut blocks[own.address as usize], own.page / self.shape.pages);
-            *at = if *at == NO_PAGE || *at == block { block } else { SEVERAL };
+            let (at, block) = (
+                &mut blocks[own.address as usize],
+                own.page / self.shape.pages,
+            );
+            *at = if *at == NO_PAGE || *at == block {
+                block
+            } else {
+                SEVERAL
+            };
         }
         let mut alone = vec![false; self.shape.vblocks as usize];
         for block in blocks.into_iter().filter(|block| *block < SEVERAL) {
@@ -175,7 +216,10 @@ impl Scan {
             let at = &mut places[own.address as usize];
             let in_spare = |page: u32| Some(page / self.shape.pages) == spare;
             if at.page == NO_PAGE || in_spare(at.page) && !in_spare(own.page) {
-                *at = Place { page: own.page, stamp: own.stamp };
+                *at = Place {
+                    page: own.page,
+                    stamp: own.stamp,
+                };
             }
         }
         places
@@ -184,7 +228,9 @@ impl Scan {
     /// Notes a pointer of a file of this size. False where its number came before, or no page has the number and the tag, or
     /// one that has is not zero behind the file's size.
     pub fn take(&mut self, at: Pointer, tag: Tag, size: u64) -> bool {
-        let Some(copies) = self.file_stamps.get_mut(&at.stamp) else { return false };
+        let Some(copies) = self.file_stamps.get_mut(&at.stamp) else {
+            return false;
+        };
         let is_new = !std::mem::replace(&mut copies.taken, true);
         let room = size.saturating_sub(MAIN as u64 * u64::from(tag.index));
         is_new && copies.owner == Owner::File(tag) && u64::from(copies.zeros) <= room
@@ -198,10 +244,17 @@ impl Scan {
     /// The least block of the physical segment without which each pointer that was noted has its page.
     pub fn file_spare(&self) -> Option<u32> {
         let mut alone = vec![false; self.shape.pblocks as usize];
-        for copies in self.file_stamps.values().filter(|copies| copies.taken && copies.apart == NO_PAGE) {
+        for copies in self
+            .file_stamps
+            .values()
+            .filter(|copies| copies.taken && copies.apart == NO_PAGE)
+        {
             alone[(copies.first / self.shape.pages - self.shape.vblocks) as usize] = true;
         }
-        alone.iter().position(|it| !it).map(|at| self.shape.vblocks + at as u32)
+        alone
+            .iter()
+            .position(|it| !it)
+            .map(|at| self.shape.vblocks + at as u32)
     }
 
     /// The place of a pointer that was noted: its name, or else the least page of its number, outside the spare block.
@@ -211,6 +264,10 @@ impl Scan {
             return at.name;
         }
         let copies = self.file_stamps.get(&at.stamp).unwrap_or_else(|| fail());
-        if in_spare(copies.first) { copies.apart } else { copies.first }
+        if in_spare(copies.first) {
+            copies.apart
+        } else {
+            copies.first
+        }
     }
 }

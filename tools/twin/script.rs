@@ -36,7 +36,10 @@ impl<'a> Words<'a> {
         if rest.is_empty() {
             return None;
         }
-        let word = &rest[..rest.iter().position(|byte| *byte == b' ').unwrap_or(rest.len())];
+        let word = &rest[..rest
+            .iter()
+            .position(|byte| *byte == b' ')
+            .unwrap_or(rest.len())];
         let column = self.at as u32 + 1;
         self.at += word.len();
         Some((column, word))
@@ -49,14 +52,20 @@ impl<'a> Words<'a> {
     }
 
     fn end(&mut self) -> Read<()> {
-        self.next().map_or(Ok(()), |(column, _)| Err((column, "extra")))
+        self.next()
+            .map_or(Ok(()), |(column, _)| Err((column, "extra")))
     }
 }
 
 fn path(word: &[u8]) -> Result<Path<'_>, &'static str> {
     let is_name = |name: &[u8]| !name.is_empty() && name != b"." && name != b"..";
-    let is_path = word == b"/" || word[0] == b'/' && word[1..].split(|byte| *byte == b'/').all(is_name);
-    if is_path { Ok(Path(word)) } else { Err("path") }
+    let is_path =
+        word == b"/" || word[0] == b'/' && word[1..].split(|byte| *byte == b'/').all(is_name);
+    if is_path {
+        Ok(Path(word))
+    } else {
+        Err("path")
+    }
 }
 
 /// The number that 1 to 19 digits spell, below 2^63.
@@ -64,13 +73,23 @@ pub fn number(word: &[u8]) -> Result<u64, &'static str> {
     if word.is_empty() || word.len() > 19 || !word.iter().all(u8::is_ascii_digit) {
         return Err("number");
     }
-    let value = word.iter().fold(0, |value, digit| value * 10 + u64::from(digit - b'0'));
-    if value < 1 << 63 { Ok(value) } else { Err("number") }
+    let value = word
+        .iter()
+        .fold(0, |value, digit| value * 10 + u64::from(digit - b'0'));
+    if value < 1 << 63 {
+        Ok(value)
+    } else {
+        Err("number")
+    }
 }
 
 fn length(word: &[u8]) -> Result<u32, &'static str> {
     let value = number(word)?;
-    if value <= MOST_BYTES { Ok(value as u32) } else { Err("long") }
+    if value <= MOST_BYTES {
+        Ok(value as u32)
+    } else {
+        Err("long")
+    }
 }
 
 fn digit(byte: u8) -> Result<u8, &'static str> {
@@ -96,16 +115,29 @@ fn data(word: &[u8]) -> Result<Vec<u8>, &'static str> {
     if word.len() % 2 != 0 {
         return Err("hex");
     }
-    let bytes = word.chunks_exact(2).map(byte).collect::<Result<Vec<u8>, _>>()?;
-    if bytes.len() as u64 <= MOST_BYTES { Ok(bytes) } else { Err("long") }
+    let bytes = word
+        .chunks_exact(2)
+        .map(byte)
+        .collect::<Result<Vec<u8>, _>>()?;
+    if bytes.len() as u64 <= MOST_BYTES {
+        Ok(bytes)
+    } else {
+        Err("long")
+    }
 }
 
 fn worker(word: &[u8]) -> Result<(), &'static str> {
-    if matches!(word, [b'0'..=b'7']) { Ok(()) } else { Err("worker") }
+    if matches!(word, [b'0'..=b'7']) {
+        Ok(())
+    } else {
+        Err("worker")
+    }
 }
 
 fn call<'a>(words: &mut Words<'a>) -> Read<Call<'a>> {
-    let (column, command) = words.next().ok_or((words.line.len() as u32 + 1, "missing"))?;
+    let (column, command) = words
+        .next()
+        .ok_or((words.line.len() as u32 + 1, "missing"))?;
     Ok(match command {
         b"mkdir" => Call::Mkdir(words.read(path)?),
         b"rmdir" => Call::Rmdir(words.read(path)?),
@@ -113,7 +145,12 @@ fn call<'a>(words: &mut Words<'a>) -> Read<Call<'a>> {
         b"unlink" => Call::Unlink(words.read(path)?),
         b"rename" => Call::Rename(words.read(path)?, words.read(path)?),
         b"write" => Call::Write(words.read(path)?, words.read(number)?, words.read(data)?),
-        b"fill" => Call::Fill(words.read(path)?, words.read(number)?, words.read(length)?, words.read(byte)?),
+        b"fill" => Call::Fill(
+            words.read(path)?,
+            words.read(number)?,
+            words.read(length)?,
+            words.read(byte)?,
+        ),
         b"read" => Call::Read(words.read(path)?, words.read(number)?, words.read(length)?),
         b"truncate" => Call::Truncate(words.read(path)?, words.read(number)?),
         b"stat" => Call::Stat(words.read(path)?),
@@ -131,7 +168,9 @@ fn says(line: &[u8]) -> Read<Option<Call<'_>>> {
         return Err((MOST_LINE as u32 + 1, "long"));
     }
     let mut words = Words { line, at: 0 };
-    let Some((column, first)) = words.next() else { return Ok(None) };
+    let Some((column, first)) = words.next() else {
+        return Ok(None);
+    };
     if first[0] == b'#' {
         return Ok(None);
     }
@@ -156,7 +195,9 @@ pub fn lines(script: &[u8]) -> Result<Vec<Line<'_>>, Refused> {
     let script = script.strip_suffix(b"\n").unwrap_or(script);
     for (place, line) in script.split(|byte| *byte == b'\n').enumerate() {
         let number = place as u32 + 1;
-        let Some(call) = says(line).map_err(|(column, why)| Refused(number, column, why))? else { continue };
+        let Some(call) = says(line).map_err(|(column, why)| Refused(number, column, why))? else {
+            continue;
+        };
         total += match &call {
             Call::Read(_, _, len) => u64::from(*len),
             Call::List(_) => MOST_BYTES,

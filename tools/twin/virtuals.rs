@@ -13,7 +13,10 @@ pub struct Place {
     pub stamp: u64,
 }
 
-pub const NOWHERE: Place = Place { page: NO_PAGE, stamp: 0 };
+pub const NOWHERE: Place = Place {
+    page: NO_PAGE,
+    stamp: 0,
+};
 
 pub struct Virtuals {
     pub places: Vec<Place>,
@@ -58,7 +61,11 @@ impl Virtuals {
         self.make_room(image);
         let wear = self.blocks.at(self.active).wear;
         let page = self.blocks.use_next(self.active);
-        from.set_spare(&Spare { owner: Owner::Address(address), stamp, wear });
+        from.set_spare(&Spare {
+            owner: Owner::Address(address),
+            stamp,
+            wear,
+        });
         image.program(page, from);
         self.places[address as usize] = Place { page, stamp };
     }
@@ -124,7 +131,11 @@ impl Virtuals {
             }
             read_at(image, address as u32, place, &mut self.record);
             let to = self.blocks.use_next(self.active);
-            self.record.set_spare(&Spare { owner: Owner::Address(address as u32), stamp: place.stamp, wear });
+            self.record.set_spare(&Spare {
+                owner: Owner::Address(address as u32),
+                stamp: place.stamp,
+                wear,
+            });
             image.program(to, &self.record);
             self.places[address].page = to;
         }

@@ -57,12 +57,14 @@ pub struct Volume {
 
 impl Volume {
     fn write_address(&mut self, address: u32) {
-        self.virtuals.write(&mut self.image, address, &mut self.other, self.stamp);
+        self.virtuals
+            .write(&mut self.image, address, &mut self.other, self.stamp);
         self.stamp += 1;
     }
 
     fn write_image(&mut self, place: usize, address: u32) {
-        self.virtuals.write(&mut self.image, address, self.meta.image(place), self.stamp);
+        self.virtuals
+            .write(&mut self.image, address, self.meta.image(place), self.stamp);
         self.stamp += 1;
     }
 
@@ -77,12 +79,19 @@ impl Volume {
             }
             Due::Image(place) => {
                 self.write_image(place, 2 + place as u32);
-                self.journal.due = if place + 1 < count { Due::Image(place + 1) } else { Due::Commit };
+                self.journal.due = if place + 1 < count {
+                    Due::Image(place + 1)
+                } else {
+                    Due::Commit
+                };
             }
             Due::Commit => {
                 put_commit(self.other.main_mut(), number);
                 self.write_address(66);
-                self.journal = Journal { number, due: Due::Home(0) };
+                self.journal = Journal {
+                    number,
+                    due: Due::Home(0),
+                };
                 return Some(number);
             }
             Due::Home(place) => {
@@ -165,9 +174,17 @@ impl Volume {
     /// Programs the page at hand for the line at hand. Where there is no room for it, rounds of reclaiming make some.
     pub fn program(&mut self, tag: Tag) {
         loop {
-            let name = self.files.write(&mut self.image, tag, &mut self.record, self.stamp);
+            let name = self
+                .files
+                .write(&mut self.image, tag, &mut self.record, self.stamp);
             if let Some(name) = name {
-                self.flight.push((Pointer { name, stamp: self.stamp }, tag));
+                self.flight.push((
+                    Pointer {
+                        name,
+                        stamp: self.stamp,
+                    },
+                    tag,
+                ));
                 self.stamp += 1;
                 return;
             }
@@ -195,7 +212,9 @@ impl Volume {
 
     /// Handles a callback that waits: whoever has the pointer of the page stores its new name. False where none waits.
     fn handle(&mut self) -> bool {
-        let Some((name, moved)) = self.files.waiting() else { return false };
+        let Some((name, moved)) = self.files.waiting() else {
+            return false;
+        };
         if !self.rename(&moved) {
             self.commit();
             // The commit may have freed the page, and the callback with it.
@@ -213,11 +232,18 @@ impl Volume {
     fn rename(&mut self, moved: &Moved) -> bool {
         let mut found = false;
         let flying = self.flight.iter_mut().map(|(at, _)| at);
-        for at in flying.chain(&mut self.freeing).filter(|at| at.stamp == moved.stamp) {
+        for at in flying
+            .chain(&mut self.freeing)
+            .filter(|at| at.stamp == moved.stamp)
+        {
             at.name = moved.to;
             found = true;
         }
-        let Tag { ino, generation, index } = moved.tag;
+        let Tag {
+            ino,
+            generation,
+            index,
+        } = moved.tag;
         if found || ino >= self.shape.nodes || index >= INDEXES {
             return true;
         }
@@ -229,14 +255,22 @@ impl Volume {
         if !self.meta.has_room(self.pointer_address(ino, index)) {
             return false;
         }
-        self.put_pointer(ino, index, Pointer { name: moved.to, stamp: moved.stamp });
+        self.put_pointer(
+            ino,
+            index,
+            Pointer {
+                name: moved.to,
+                stamp: moved.stamp,
+            },
+        );
         true
     }
 
     /// What the cleaner and the handler do between two steps of a line: a copy, or else an erase, while few blocks are Free,
     /// and a callback.
     pub fn background(&mut self) {
-        let copied = self.files.blocks.free() < FEW_BLOCKS && self.files.copy(&mut self.image, &mut self.other);
+        let copied = self.files.blocks.free() < FEW_BLOCKS
+            && self.files.copy(&mut self.image, &mut self.other);
         if !copied && self.files.erase_victim(&mut self.image) {
             self.files.begin(true);
         }
