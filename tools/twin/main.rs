@@ -7,12 +7,14 @@
 //! scan and a walk are as docs/FORMATS.md and docs/INSIDE.md have them. Choices are the same too: the block that is taken
 //! or cleaned, the node and the address that are given out, when a commit comes, and each call on the file.
 //!
-//! It is left out:
+//! What it leaves out:
 //! - Threads. The lines of all workers are done in the order in which they stand, and between two steps of a line the
 //!   cleaner and the handler take one step each, where they have something to do.
 //! - Failures. At the first call on the file that fails, and at a page that does not hold what is wanted, it ends with
 //!   `medium fault` and status 5. Sequence numbers do not end, and nothing becomes read-only.
 //! - The lock of the file, and the commands `report`, `check`, `map`, `get`, `put` and `soak`.
+//!
+//! Answers are gathered, and written at once behind the closing; the program writes each of them by itself.
 
 mod blocks;
 mod calls;
