@@ -238,7 +238,8 @@ def ratios(rows):
     made = {}
     for geometry in GEOMETRIES:
         store, twin = rows[row_of(geometry, "memory")], rows[row_of(geometry, "twin", "memory")]
-        made[f"{geometry[0]} by {geometry[1]}"] = {name: tuple(a / b for a, b in zip(store[name], twin[name])) for name in twin}
+        for at, of in enumerate(("wall", "processor")):
+            made[row_of(geometry, of)] = {name: (store[name][at] / twin[name][at],) for name in twin}
     return made
 
 
@@ -257,7 +258,7 @@ def report(words, twin, load, rows):
         text += " There is no `rustc` here, so the twin was not measured.\n\n"
     text += table(rows, 0, "Wall time in milliseconds:") + "\n" + table(rows, 1, "Processor time in milliseconds, of all threads:")
     if twin:
-        text += "\n" + table(ratios(rows), 0, "The store's wall time over the twin's, in memory:", "{:.2f}".format)
+        text += "\n" + table(ratios(rows), 0, "The store's time over the twin's, in memory:", "{:.2f}".format)
     text += f"\n`soak {' '.join(SOAK)}`, once each:\n\n| | lines a second |\n|---|---|\n"
     return text + "".join(f"| {row} | {round(took['soak'], -2):,.0f} |\n" for row, took in rows.items() if "soak" in took)
 
