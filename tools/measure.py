@@ -1,16 +1,19 @@
 #!/usr/bin/env python3
-"""Measures the store beside a plain tree of files, and prints the tables of docs/MEASURED.md.
+"""Measures the store beside a plain tree of files and beside its unproved twin, and prints the tables of docs/MEASURED.md.
 
 Run it at the top of the repository, on a machine that does nothing else: `tools/measure.py` takes the programs that a check has left in
 `crates/nl_app/out/nl_app` (`./nameless --version` builds it) and `crates/nl_bench/out/nl_bench` (`rt run -- 32 32 </dev/null` in its folder). Each script is made
 here, as docs/MEASURED.md says it. Over the store it runs on a volume made for that run, after the lines that prepare it; over the plain tree behind
-those lines, whose time is taken off. The answers of both are compared, and where they differ the run ends with 1. With --write the tables take the
-place of those in the document, between its two marks. Programs that `rt try` built are named as such by --unproved, and are no measure.
+those lines, whose time is taken off. The twin (`tools/twin`) is built here by `rustc -O`, and each script runs over it as over the store; where there
+is no `rustc`, its rows are left out. The answers of all are compared, and what the store's program says of the images that it and the twin left, and
+where they differ the run ends with 1. With --write the tables take the place of those in the document, between its two marks. Programs that `rt try`
+built are named as such by --unproved, and are no measure.
 """
 import argparse
 import hashlib
 import os
 import random
+import shutil
 import subprocess
 import sys
 import tempfile
@@ -19,6 +22,7 @@ from pathlib import Path
 
 TOP = Path(__file__).resolve().parent.parent
 PAGE = TOP / "docs" / "MEASURED.md"
+TWIN = TOP / "tools" / "twin" / "main.rs"
 MARK = "<!-- tables: tools/measure.py -->"
 GEOMETRIES = ((32, 32), (256, 64), (1024, 128))
 PAGE_BYTES = 4096
@@ -136,13 +140,17 @@ class Runner:
             best = now if best is None or now[0] < best[0] else best
         return best
 
-    def on_store(self, image, geometry, prepared, lines):
+    def on_store(self, program, image, geometry, prepared, lines):
         def before():
-            self.run([self.words.nameless, image, "format", *map(str, geometry)])
+            self.run([program, image, "format", *map(str, geometry)])
             if prepared:
-                self.run([self.words.nameless, image, "run"], prepared)
+                self.run([program, image, "run"], prepared)
 
-        return self.least([self.words.nameless, image, "run"], lines, before)
+        return self.least([program, image, "run"], lines, before)
+
+    def left(self, image):
+        """What the store's program says of an image: that it is sound, and its tree."""
+        return [self.run([self.words.nameless, image, command])[1] for command in ("check", "tree")]
 
     def on_plain(self, geometry, prepared, lines):
         """The plain tree's time for its start and the lines, behind others that prepare it."""
@@ -168,26 +176,48 @@ def scripts_for(geometry):
             yield name, *make(*geometry), ordered
 
 
-def measured(runner, places):
-    """Rows of the tables: what each script took over the plain tree, and over the store on each place."""
+def row_of(geometry, *of):
+    return f"{geometry[0]} by {geometry[1]}, {', '.join(of)}"
+
+
+def twin_in(folder):
+    """The twin, built into a folder; none where there is no compiler."""
+    compiler, twin = shutil.which("rustc"), Path(folder) / "twin"
+    if compiler is None:
+        return None
+    built = subprocess.run([compiler, "-O", "--edition", "2021", "-o", twin, TWIN], capture_output=True, text=True)
+    if built.returncode != 0:
+        raise Failed(f"the twin was not built: {built.stderr[-400:]}")
+    return twin
+
+
+def measured(runner, twin, places):
+    """Rows of the tables: what each script took over the plain tree, and over the store and its twin on each place."""
     rows, expected = {}, {}
+    programs = {(): runner.words.nameless, **({("twin",): twin} if twin else {})}
     for geometry in GEOMETRIES:
-        row = rows.setdefault(f"{geometry[0]} by {geometry[1]}, plain", {})
+        row = rows.setdefault(row_of(geometry, "plain"), {})
         for name, prepared, lines, ordered in scripts_for(geometry):
             if ordered and lines:
                 row[name], text = runner.on_plain(geometry, prepared, lines)
                 expected[geometry, name] = answers(text, len(lines))
+    rows.update({row_of(geometry, *of, place): {} for of in programs for place, _ in places for geometry in GEOMETRIES})
     for place, folder in places:
         for geometry in GEOMETRIES:
-            row, image = rows.setdefault(f"{geometry[0]} by {geometry[1]}, {place}", {}), Path(folder) / "measured.img"
+            image = Path(folder) / "measured.img"
             for name, prepared, lines, _ in scripts_for(geometry):
-                row[name], text = runner.on_store(image, geometry, prepared, lines)
-                told = answers(text, len(lines))
-                if told != expected.get((geometry, name), told):
-                    raise Failed(f"{name} on {geometry}: the answers are not those of the plain tree")
+                left = []
+                for of, program in programs.items():
+                    rows[row_of(geometry, *of, place)][name], text = runner.on_store(program, image, geometry, prepared, lines)
+                    told = answers(text, len(lines))
+                    if told != expected.get((geometry, name), told):
+                        raise Failed(f"{name} on {geometry}: the answers are not those of the plain tree")
+                    left.append(runner.left(image))
+                if left[0] != left[-1]:
+                    raise Failed(f"{name} on {geometry}: the twin left another tree than the program")
             runner.run([runner.words.nameless, image, "format", *map(str, geometry)])
             (wall, _), _ = runner.run([runner.words.nameless, image, "soak", *SOAK])
-            row["soak"] = int(SOAK[2]) * (int(SOAK[1]) + 1) / wall * 1000
+            rows[row_of(geometry, place)]["soak"] = int(SOAK[2]) * (int(SOAK[1]) + 1) / wall * 1000
             image.unlink()
     return rows
 
@@ -196,14 +226,24 @@ def shown(number):
     return f"{number:.1f}" if number < 10 else f"{number:.0f}"
 
 
-def table(rows, at, head):
+def table(rows, at, head, form=shown):
     text = f"{head}\n\n| | {' | '.join(SCRIPTS)} |\n|{'---|' * (len(SCRIPTS) + 1)}\n"
     for row, took in rows.items():
-        text += f"| {row} | " + " | ".join(shown(took[name][at]) if name in took else "" for name in SCRIPTS) + " |\n"
+        text += f"| {row} | " + " | ".join(form(took[name][at]) if name in took else "" for name in SCRIPTS) + " |\n"
     return text
 
 
-def report(words, load, rows):
+def ratios(rows):
+    """What each script took over the store, divided by what it took over the twin, both in memory."""
+    made = {}
+    for geometry in GEOMETRIES:
+        store, twin = rows[row_of(geometry, "memory")], rows[row_of(geometry, "twin", "memory")]
+        for at, of in enumerate(("wall", "processor")):
+            made[row_of(geometry, of)] = {name: (store[name][at] / twin[name][at],) for name in twin}
+    return made
+
+
+def report(words, twin, load, rows):
     def said(*command):
         return subprocess.run(command, cwd=TOP, capture_output=True, text=True, check=True).stdout.strip()
 
@@ -211,8 +251,14 @@ def report(words, load, rows):
     built = "built WITHOUT a proof, so no measure" if words.unproved else "proved, as LLVM builds them"
     text = f"Of {time.strftime('%Y-%m-%d', time.gmtime())}, commit {said('git', 'log', '-1', '--format=%h')}, {os.cpu_count()} processors"
     text += f" with a load of {load:.1f} before, the better of {words.runs} runs by the clock. Programs {built}: {sums}"
-    text += " (the fronts of their SHA-256).\n\n"
+    text += " (the fronts of their SHA-256)."
+    if twin:
+        text += f" Twin: built by `{said('rustc', '--version')}`.\n\n"
+    else:
+        text += " There is no `rustc` here, so the twin was not measured.\n\n"
     text += table(rows, 0, "Wall time in milliseconds:") + "\n" + table(rows, 1, "Processor time in milliseconds, of all threads:")
+    if twin:
+        text += "\n" + table(ratios(rows), 0, "The store's time over the twin's, in memory:", "{:.2f}".format)
     text += f"\n`soak {' '.join(SOAK)}`, once each:\n\n| | lines a second |\n|---|---|\n"
     return text + "".join(f"| {row} | {round(took['soak'], -2):,.0f} |\n" for row, took in rows.items() if "soak" in took)
 
@@ -230,7 +276,8 @@ def main():
     with tempfile.TemporaryDirectory(dir=words.memory) as memory, tempfile.TemporaryDirectory(dir=words.disk) as disk:
         try:
             load = os.getloadavg()[0]
-            text = report(words, load, measured(Runner(words, memory), (("disk", disk), ("memory", memory))))
+            twin = twin_in(disk)
+            text = report(words, twin, load, measured(Runner(words, memory), twin, (("disk", disk), ("memory", memory))))
         except Failed as failed:
             print(f"measure: {failed}", file=sys.stderr)
             return 1
