@@ -14,7 +14,7 @@
 //!   `medium fault` and status 5. Sequence numbers do not end, and nothing becomes read-only.
 //! - The lock of the file, and the commands `report`, `check`, `map`, `get`, `put` and `soak`.
 //!
-//! Answers are gathered, and written at once behind the closing; the program writes each of them by itself.
+//! Answers are gathered, and written at once behind the closing; the program writes 16 KiB of them at once.
 
 mod blocks;
 mod calls;
