@@ -19,7 +19,7 @@ pub fn name_fault(
     ensures { IfOk result (λ place. place ≡ name_fault shape.now scan.now.seen held.now) }
 {
     let pages = physical_pages(alloc, shape, scan)?;
-    let places = Places::of(alloc, &pages)?;
+    let places = Places::of(alloc, shape, &pages)?;
     'held: for at in 0..held.len() {
         let pointer = held.get(at).pointer;
         if !places.owns(&pointer) {

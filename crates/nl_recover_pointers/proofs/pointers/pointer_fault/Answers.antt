@@ -7,7 +7,7 @@ use Rattle.nl_recover_pointers.proofs.Rests.{drop_got}
 use Rattle.nl_recover_pointers.proofs.pointers.pointer_fault.Goals as goal
 
 pub held-init : goal.held-init
-held-init c = record { passed = passed_none c.in_ok-pages.pages.items c.args.held.now c.new-earlier.result c.new-earlier.ensures.stamps c.new-earlier.ensures.names }
+held-init c = record { passed = passed_none c.in_ok-pages.pages.items c.args.held.now c.in_ok-earlier.earlier c.in_ok-earlier.ensures.stamps c.in_ok-earlier.ensures.names }
 
 pub returns-then-branch : goal.returns-then-branch
 returns-then-branch c =

@@ -1,0 +1,6 @@
+use Rattle.nl_recover_pointers.proofs.Owning.{put_owned}
+use Rattle.nl_recover_pointers.proofs.owners.keep.Goals as goal
+
+pub returns-clause-kept : goal.returns-clause-kept
+returns-clause-kept c is =
+    put_owned c.args.kept.now.items c.args.owned c.place_of-at.result c.place_of-at.ensures (c.is_free.ensures.inside c.if-not-is_free.false) (c.is_free.ensures.free c.if-not-is_free.false)
