@@ -1,6 +1,6 @@
 -- From where the pages of a number and an owner are zero.
 use Rattle.std.proofs.Common.{◌≡◌, ℕ, ◌-◌, ◌*◌, ◌<◌, Bool, true, false, not, ◌&&◌, ◌||◌, max, cond, List, [], ◌∷◌, length, get_or, set, replicate, Option, Some, None, refl, sym, ◌∙◌, ap, arith}
-use Rattle.std.specs.Prelude.{◌==◌, nat_le, fold}
+use Rattle.std.specs.Prelude.{◌==◌, filter, fold, nat_le}
 use Rattle.std.specs.List.{list_all, list_any}
 use Rattle.std.specs.BTreeMap.{BTreeMap, Updates, get}
 use Rattle.std.specs.Map.{lookup}
@@ -8,16 +8,19 @@ use Rattle.std.specs.Ordering.{is_eq}
 use Rattle.std.proofs.lemmas.Bool.{and_parts}
 use Rattle.std.proofs.lemmas.Bool.Decides.{nat_tests}
 use Rattle.std.proofs.lemmas.List.{length-set}
+use Rattle.nl_field.specs.Medium.{first_physical, is_physical_rec}
+use Rattle.nl_field.specs.ScanList.{physical_seen}
 use Rattle.nl_field.specs.SpareRecord.{stamp_of}
 use Rattle.nl_field.specs.declared.pointer.Tag.{Tag}
 use Rattle.nl_field.specs.declared.seen.Seen.{Seen}
+use Rattle.nl_field.specs.declared.shape.Shape.{Shape}
+use Rattle.nl_field.specs.declared.spare.SpareRec.{SpareRec}
 use Rattle.nl_field.specs.declared.spare.SpareRec.TheVariants.{Virtual, Physical}
 use Rattle.nl_meta.specs.Nodes.{Held}
 use Rattle.nl_meta.specs.Walk.{has_page, has_tag, tag_eq}
 use Rattle.nl_recover_pointers.specs.Numbers.{place_in}
-use Rattle.nl_recover_pointers.specs.Owners.{AddsOwned, KeepsOwned, PageKey, and_page, greatest_zeros, is_zero_from, key_cmp, key_of, more_zeros, with_page, zeros_and, zeros_at, zeros_kept, zeros_of}
+use Rattle.nl_recover_pointers.specs.Owners.{KeepsOwned, PageKey, and_owned, and_page, greatest_zeros, is_zero_from, key_cmp, key_of, more_zeros, owned_by, owned_in, with_page, zeros_and, zeros_kept, zeros_of}
 use Rattle.nl_recover_pointers.specs.declared.owners.Owned.{Owned}
-use Rattle.nl_recover_pointers.specs.declared.owners.Zeros.{Zeros}
 use Rattle.nl_recover_pointers.proofs.Keys.{key_test, number_is}
 use Rattle.nl_recover_pointers.proofs.Numbering.{blank, put_elsewhere, put_here, was_free}
 
@@ -93,19 +96,24 @@ no_owner count more none s t =
     ap (λ z. zeros_and (zeros_of s t z) (get key_cmp more (key_of s t))) (blank {X = Owned} count (place_in (length (replicate {A = Option Owned} count None)) s))
     ∙ ap (λ (es : List (PageKey × ℕ)). lookup (λ k. is_eq (key_cmp (key_of s t) k)) es) none
 
--- a page with a record of the physical kind is added under its key
-pub owned_more : (s : ℕ) (a : Tag) (wear : ℕ) (page : Seen) (old new : Zeros) → page.rec ≡ Physical a s wear
-    → AddsOwned old new s a page.zeros → (t : ℕ) (b : Tag) → zeros_at new t b ≡ with_page t b (zeros_at old t b) page
-owned_more s a wear page old new is adds t b =
-    adds t b ∙ sym (ap (λ r. cond (stamp_of r == t && has_tag b r) (Some (more_zeros (zeros_at old t b) page.zeros)) (zeros_at old t b)) is)
+-- ---- the pages that a scan saw
 
-none_of_virtual : (x : Bool) (y z : Option ℕ) → cond (x && false) y z ≡ z
-none_of_virtual true y z = refl
-none_of_virtual false y z = refl
+-- one more of them
+pub seen_more : (shape : Shape) (x : Seen) (rest : List Seen) (s : ℕ) (t : Tag) (old : Option ℕ)
+    → fold (with_page s t) old (physical_seen shape (x ∷ rest)) ≡ fold (with_page s t) (and_owned (owned_in shape x) old s t) (physical_seen shape rest)
+unfolding physical_seen
+seen_more shape x rest s t old = by (nat_le (first_physical shape) x.page) x.rec refl
+  where
+    by : (b : Bool) (rec : SpareRec) → x.rec ≡ rec
+        → fold (with_page s t) old (cond (b && is_physical_rec rec) (x ∷ filter (λ s. nat_le (first_physical shape) s.page && is_physical_rec s.rec) rest) (filter (λ s. nat_le (first_physical shape) s.page && is_physical_rec s.rec) rest))
+        ≡ fold (with_page s t) (and_owned (cond b (owned_by x.zeros rec) None) old s t) (filter (λ s. nat_le (first_physical shape) s.page && is_physical_rec s.rec) rest)
+    by false rec is = refl
+    by true (Virtual vaddr stamp wear) is = refl
+    by true (Physical tag stamp wear) is = ap (λ r. fold (with_page s t) (cond (stamp_of r == s && has_tag t r) (Some (more_zeros old x.zeros)) old) (filter (λ s. nat_le (first_physical shape) s.page && is_physical_rec s.rec) rest)) is
 
--- one of the virtual kind has no owner
-pub owned_same : (vaddr s wear : ℕ) (page : Seen) (zeros : Option ℕ) → page.rec ≡ Virtual vaddr s wear → (t : ℕ) (b : Tag) → with_page t b zeros page ≡ zeros
-owned_same vaddr s wear page zeros is t b = ap (λ r. cond (stamp_of r == t && has_tag b r) (Some (more_zeros zeros page.zeros)) zeros) is ∙ none_of_virtual (s == t) (Some (more_zeros zeros page.zeros)) zeros
+pub seen_none : (shape : Shape) (s : ℕ) (t : Tag) (old : Option ℕ) → fold (with_page s t) old (physical_seen shape []) ≡ old
+unfolding physical_seen
+seen_none shape s t old = refl
 
 -- ---- what the greatest offset tells
 

@@ -1,18 +1,18 @@
 -- The pages of the physical segment by their numbers, and the first pointer that does not own its name.
 use Rattle.std.proofs.Common.{◌≡◌, ℕ, ◌<◌, Bool, true, false, not, ◌&&◌, ◌||◌, cond, List, [], ◌∷◌, length, get_or, set, replicate, Option, Some, None, is_some, option_map, refl, sym, ◌∙◌, ap}
-use Rattle.std.specs.Prelude.{◌==◌, find}
+use Rattle.std.specs.Prelude.{◌==◌, filter, find, nat_le}
 use Rattle.std.specs.BTreeSet.{BTreeSet, IsEmpty, Updates, contains}
 use Rattle.std.specs.List.{list_any}
 use Rattle.std.specs.Ordering.{is_eq, nat_cmp}
-use Rattle.nl_field.specs.ScanList.{holds_seen, on_list, owns_seen, physical_seen}
-use Rattle.nl_field.specs.Space.{holds_among, is_among}
+use Rattle.nl_field.specs.Medium.{first_physical, is_physical_rec}
+use Rattle.nl_field.specs.ScanList.{holds_seen, owns_seen, physical_seen}
 use Rattle.nl_field.specs.declared.pointer.Pointer.{Pointer}
 use Rattle.nl_field.specs.declared.seen.Seen.{Seen}
 use Rattle.nl_field.specs.declared.shape.Shape.{Shape}
 use Rattle.nl_meta.specs.Nodes.{Held}
 use Rattle.nl_meta.specs.Walk.{name_fault}
 use Rattle.nl_recover_pointers.specs.Numbers.{is_it}
-use Rattle.nl_recover_pointers.specs.Places.{KnowsPlaces, PlaceKey, has_place, is_at, pair_cmp, place_key}
+use Rattle.nl_recover_pointers.specs.Places.{KnowsPlaces, PlaceKey, has_place, is_at, is_file, pair_cmp, place_key}
 use Rattle.nl_recover_pointers.specs.declared.places.Places.{Places}
 use Rattle.nl_recover_pointers.proofs.Keys.{number_is, number_test, or_false, pair_test, turned}
 use Rattle.nl_recover_pointers.proofs.Numbering.{blank, no_number, put_elsewhere, put_here, was_free}
@@ -91,16 +91,29 @@ no_places count kept pages stamped is none no_stamped =
 
 -- ---- the pages of the physical segment by number
 
-pub holds_test : (shape : Shape) (seen : List Seen) (pages : List Seen) (places : Places) (p : Pointer) → pages ≡ physical_seen shape seen → KnowsPlaces pages places
-    → is_at places p.name p.stamp ≡ holds_seen shape seen p.name p.stamp
-unfolding holds_seen
-holds_test shape seen pages places p are knows = knows.stamped_are p.name p.stamp ∙ ap (λ l. holds_among on_list l p.name p.stamp) are
+-- what one more page that a scan saw adds
+pub any_more : (shape : Shape) (test : Seen → Bool) (x : Seen) (rest : List Seen) → list_any test (physical_seen shape (x ∷ rest)) ≡ ((is_file shape x && test x) || list_any test (physical_seen shape rest))
+unfolding physical_seen
+any_more shape test x rest = by (is_file shape x)
+  where
+    by : (b : Bool)
+        → list_any test (cond b (x ∷ filter (λ s. nat_le (first_physical shape) s.page && is_physical_rec s.rec) rest) (filter (λ s. nat_le (first_physical shape) s.page && is_physical_rec s.rec) rest))
+        ≡ ((b && test x) || list_any test (filter (λ s. nat_le (first_physical shape) s.page && is_physical_rec s.rec) rest))
+    by true = refl
+    by false = refl
 
-pub owns_test : (shape : Shape) (seen : List Seen) (pages : List Seen) (places : Places) (p : Pointer) → pages ≡ physical_seen shape seen → KnowsPlaces pages places
+pub any_none : (shape : Shape) (test : Seen → Bool) → list_any test (physical_seen shape []) ≡ false
+unfolding physical_seen
+any_none shape test = refl
+
+pub holds_test : (shape : Shape) (seen : List Seen) (places : Places) (p : Pointer) → KnowsPlaces (physical_seen shape seen) places → is_at places p.name p.stamp ≡ holds_seen shape seen p.name p.stamp
+unfolding holds_seen
+holds_test shape seen places p knows = knows.stamped_are p.name p.stamp
+
+pub owns_test : (shape : Shape) (seen : List Seen) (places : Places) (p : Pointer) → KnowsPlaces (physical_seen shape seen) places
     → (is_at places p.name p.stamp || not (has_place places p.name)) ≡ owns_seen shape seen p
 unfolding owns_seen
-owns_test shape seen pages places p are knows =
-    λ i. holds_test shape seen pages places p are knows i || not ((knows.pages_are p.name ∙ ap (λ l. is_among on_list l p.name) are) i)
+owns_test shape seen places p knows = λ i. holds_test shape seen places p knows i || not (knows.pages_are p.name i)
 
 -- ---- the first pointer that does not own its name, one pointer on
 

@@ -3,9 +3,13 @@ use Rattle.std.specs.Prelude.{◌≡◌, ℕ, nat_le, ◌==◌, ◌&&◌, max, B
 use Rattle.std.specs.Ordering.{nat_cmp, ordering_then}
 use Rattle.std.specs.declared.cmp.Ordering.{Ordering}
 use Rattle.std.specs.BTreeMap.{get}
+use Rattle.nl_field.specs.Medium.{first_physical}
 use Rattle.nl_field.specs.SpareRecord.{stamp_of}
 use Rattle.nl_field.specs.declared.pointer.Tag.{Tag}
 use Rattle.nl_field.specs.declared.seen.Seen.{Seen}
+use Rattle.nl_field.specs.declared.shape.Shape.{Shape}
+use Rattle.nl_field.specs.declared.spare.SpareRec.{SpareRec}
+use Rattle.nl_field.specs.declared.spare.SpareRec.TheVariants.{Virtual, Physical}
 use Rattle.nl_meta.specs.Walk.{has_tag, tag_eq}
 use Rattle.nl_recover_pointers.specs.Numbers.{place_in}
 use Rattle.nl_recover_pointers.specs.declared.owners.Owned.{Owned}
@@ -67,8 +71,27 @@ KeepsOwned old new owned = (s : ℕ) (t : Tag) (others : Option ℕ)
     → zeros_and (zeros_kept new s t) others ≡ and_page owned.stamp owned.tag owned.zeros (zeros_and (zeros_kept old s t) others) s t
 
 -- a page more
-abbrev pub AddsOwned : Zeros → Zeros → ℕ → Tag → ℕ → Type 0
-AddsOwned old new stamp tag from = (s : ℕ) (t : Tag) → zeros_at new s t ≡ and_page stamp tag from (zeros_at old s t) s t
+abbrev pub AddsOwned : Zeros → Zeros → Owned → Type 0
+AddsOwned old new owned = (s : ℕ) (t : Tag) → zeros_at new s t ≡ and_page owned.stamp owned.tag owned.zeros (zeros_at old s t) s t
+
+-- ---- the pages that a scan saw
+
+abbrev pub owned_by : ℕ → SpareRec → Option Owned
+owned_by zeros (Virtual vaddr stamp wear) = None
+owned_by zeros (Physical tag stamp wear) = Some (record { stamp = stamp; tag = tag; zeros = zeros })
+
+-- the number, the owner and the offset of a page of the physical segment
+abbrev pub owned_in : Shape → Seen → Option Owned
+owned_in shape s = if nat_le (first_physical shape) s.page then owned_by s.zeros s.rec else None
+
+-- the offset with one page more, where there is one
+abbrev pub and_owned : Option Owned → Option ℕ → ℕ → Tag → Option ℕ
+and_owned None zeros s t = zeros
+and_owned (Some owned) zeros s t = and_page owned.stamp owned.tag owned.zeros zeros s t
+
+-- a page more, where there is one
+abbrev pub SeesOwned : Zeros → Zeros → Option Owned → Type 0
+SeesOwned old new owned = (s : ℕ) (t : Tag) → zeros_at new s t ≡ and_owned owned (zeros_at old s t) s t
 
 abbrev pub AreOwned : List Seen → Zeros → Type 0
 AreOwned pages zeros = (stamp : ℕ) (tag : Tag) → zeros_at zeros stamp tag ≡ greatest_zeros pages stamp tag

@@ -6,7 +6,6 @@ ghost use Rattle.nl_meta.specs.Walk.{crowded_fault, spare_beside};
 use crate::HeldList;
 use crate::blank::has_blank;
 use crate::copies::{physical_copies, virtual_copies};
-use crate::pages::physical_pages;
 use crate::places::Places;
 use crate::spare::has_spare;
 use nl_field::{Memory, Shape};
@@ -49,8 +48,7 @@ fn count_lost(
 ) -> Result<u32, Memory>
     ensures { IfOk result (λ lost. lost ≡ count_by (λ h. is_lost_seen shape.now scan.now.seen h.pointer) held.now) }
 {
-    let pages = physical_pages(alloc, shape, scan)?;
-    let places = Places::of(alloc, shape, &pages)?;
+    let places = Places::of(alloc, shape, scan)?;
     let mut lost = 0;
     'held: for at in 0..held.len() {
         if !places.holds(&held.get(at).pointer) {

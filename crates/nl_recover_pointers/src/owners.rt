@@ -1,13 +1,16 @@
 //! From which offset on the pages of a write sequence number and an owner are zero, gathered from a scan.
 ghost use Rattle.std.specs.Prelude.{◌≡◌, ◌*◌, ◌-◌, ◌<◌, IfOk, None, OnOk, Some, false, length, replicate, slice_index_or, true};
 ghost use Rattle.std.specs.BTreeMap.{get, Updates};
+ghost use Rattle.nl_field.specs.ScanList.{physical_seen};
 ghost use Rattle.nl_meta.specs.Walk.{tag_eq};
-ghost use Rattle.nl_recover_pointers.specs.Owners.{AddsOwned, AreOwned, HasNoOwner, KeepsOwned, is_zero_from, key_cmp, key_of, more_zeros};
-ghost use Rattle.nl_recover_pointers.specs.Owners.{zeros_and, zeros_at, zeros_kept, zeros_of};
+ghost use Rattle.nl_recover_pointers.specs.Owners.{AddsOwned, AreOwned, HasNoOwner, KeepsOwned, SeesOwned, is_zero_from, key_cmp, key_of};
+ghost use Rattle.nl_recover_pointers.specs.Owners.{more_zeros, owned_by, owned_in, zeros_and, zeros_at, zeros_kept, zeros_of};
 
 use crate::HeldPointer;
 use crate::numbers::place_of;
-use nl_field::{Memory, Seen, SpareRec, Tag};
+use crate::pages::virtual_end;
+use nl_field::{Memory, Seen, Shape, SpareRec, Tag};
+use nl_scan::ScanTables;
 use std::alloc::Global;
 use std::collections::BTreeMap;
 
@@ -147,20 +150,28 @@ impl Zeros {
         Ok(Zeros { kept, more })
     }
 
-    /// Adds a page.
-    fn add(&mut self, stamp: u64, tag: &Tag, from: u32) -> Result<(), Memory>
-        ensures { OnOk result (AddsOwned self.old self.new stamp tag.now from) }
+    fn add(&mut self, owned: Owned) -> Result<(), Memory>
+        ensures { OnOk result (AddsOwned self.old self.new owned) }
     {
-        let owned = Owned {
-            stamp,
-            tag: *tag,
-            zeros: from,
-        };
         if keep(&mut self.kept, owned) {
             return Ok(());
         }
-        note(&mut self.more, key_of(stamp, tag), from)?;
+        let key = key_of(owned.stamp, &owned.tag);
+        note(&mut self.more, key, owned.zeros)?;
         Ok(())
+    }
+
+    // Adds a page, where it is one of the physical segment.
+    fn see(&mut self, shape: &Shape, seen: &Seen) -> Result<(), Memory>
+        ensures { OnOk result (SeesOwned self.old self.new (owned_in shape.now seen.now)) }
+    {
+        match owned_in(shape, seen) {
+            Some(owned) => {
+                self.add(owned)?;
+                Ok(())
+            }
+            None => Ok(()),
+        }
     }
 
     fn of(&self, stamp: u64, tag: &Tag) -> Option<u32>
@@ -173,19 +184,34 @@ impl Zeros {
     }
 }
 
-/// Of each write sequence number and owner, the greatest offset from which a page with both is zero.
-pub fn owners(alloc: Global, pages: &Vec<Seen>) -> Result<Zeros, Memory>
-    ensures { IfOk result (AreOwned pages.now.items) }
+// The number, the owner and the offset of a record of the physical kind.
+fn owned_by(zeros: u32, rec: &SpareRec) -> Option<Owned>
+    ensures { result ≡ owned_by zeros rec.now }
 {
-    let mut zeros = Zeros::new(alloc, pages.len().saturating_mul(2))?;
-    'pages: for at in 0..pages.len() {
-        let page = &pages[at];
-        match page.rec {
-            SpareRec::Physical { tag, stamp, .. } => {
-                zeros.add(stamp, &tag, page.zeros)?;
-            }
-            SpareRec::Virtual { .. } => {}
-        }
+    match *rec {
+        SpareRec::Virtual { .. } => None,
+        SpareRec::Physical { tag, stamp, .. } => Some(Owned { stamp, tag, zeros }),
+    }
+}
+
+// Those of a page, where it is one of the physical segment.
+fn owned_in(shape: &Shape, seen: &Seen) -> Option<Owned>
+    ensures { result ≡ owned_in shape.now seen.now }
+{
+    if virtual_end(shape) <= seen.page as u64 {
+        owned_by(seen.zeros, &seen.rec)
+    } else {
+        None
+    }
+}
+
+/// Of each write sequence number and owner, the greatest offset from which a page of the physical segment with both is zero.
+pub fn owners(alloc: Global, shape: &Shape, scan: &ScanTables) -> Result<Zeros, Memory>
+    ensures { IfOk result (AreOwned (physical_seen shape.now scan.now.seen)) }
+{
+    let mut zeros = Zeros::new(alloc, 2 * scan.len() as usize)?;
+    'seen: for at in 0..scan.len() {
+        zeros.see(shape, scan.get(at))?;
     }
     Ok(zeros)
 }

@@ -1,11 +1,14 @@
 //! The pages of the physical segment by number, each with its write sequence number.
 ghost use Rattle.std.specs.Prelude.{◌≡◌, ◌==◌, ◌&&◌, ◌||◌, ℕ, None, false, is_some, not, slice_index_or, true, IfOk, OnOk};
+ghost use Rattle.nl_field.specs.ScanList.{physical_seen};
+ghost use Rattle.nl_field.specs.SpareRecord.{stamp_of};
 ghost use Rattle.nl_recover_pointers.specs.Numbers.{is_it};
-ghost use Rattle.nl_recover_pointers.specs.Places.{HasNoPlace, KnowsPlaces, has_place, is_at};
+ghost use Rattle.nl_recover_pointers.specs.Places.{HasNoPlace, KnowsPlaces, has_place, is_at, is_file};
 
 use crate::numbers::{free_places, is_free, is_it, kept_at};
-use crate::pages::stamp_on;
+use crate::pages::{is_physical, stamp_on};
 use nl_field::{Memory, Pointer, Seen, Shape};
+use nl_scan::ScanTables;
 use std::alloc::Global;
 use std::collections::BTreeSet;
 
@@ -62,14 +65,27 @@ impl Places {
         Ok(())
     }
 
-    /// The numbers of these pages, each also with its write sequence number. `Memory` where there is no room for them.
-    pub fn of(alloc: Global, shape: &Shape, pages: &Vec<Seen>) -> Result<Places, Memory>
-        ensures { IfOk result (KnowsPlaces pages.now.items) }
+    // Adds a page, where it is one of the physical segment.
+    fn see(&mut self, shape: &Shape, seen: &Seen) -> Result<(), Memory>
+        ensures pages { OnOk result ((p : ℕ) → has_place self.new p ≡ (has_place self.old p || (is_file shape.now seen.now && seen.now.page == p))) }
+        ensures stamped { OnOk result ((p s : ℕ) → is_at self.new p s
+            ≡ (is_at self.old p s || (is_file shape.now seen.now && (seen.now.page == p && stamp_of seen.now.rec == s)))) }
+    {
+        if !is_physical(shape, seen) {
+            return Ok(());
+        }
+        self.add(seen.page, stamp_on(&seen.rec))?;
+        Ok(())
+    }
+
+    /// The numbers of the pages of the physical segment that a scan saw, each also with its write sequence number. `Memory` where there is
+    /// no room for them.
+    pub fn of(alloc: Global, shape: &Shape, scan: &ScanTables) -> Result<Places, Memory>
+        ensures { IfOk result (KnowsPlaces (physical_seen shape.now scan.now.seen)) }
     {
         let mut places = Places::new(alloc, shape)?;
-        'pages: for at in 0..pages.len() {
-            let page = &pages[at];
-            places.add(page.page, stamp_on(&page.rec))?;
+        'seen: for at in 0..scan.len() {
+            places.see(shape, scan.get(at))?;
         }
         Ok(places)
     }

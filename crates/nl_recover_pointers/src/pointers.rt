@@ -8,7 +8,6 @@ ghost use Rattle.nl_recover_pointers.specs.Owners.{is_zero_from, zeros_at};
 
 use crate::earlier::Earlier;
 use crate::owners::{Zeros, has_page, owners};
-use crate::pages::physical_pages;
 use crate::{HeldList, HeldPointer};
 use nl_field::{Memory, Shape};
 use nl_scan::ScanTables;
@@ -38,8 +37,7 @@ pub fn pointer_fault(
 ) -> Result<Option<u32>, Memory>
     ensures { IfOk result (λ place. place ≡ pointer_fault (physical_seen shape.now scan.now.seen) held.now) }
 {
-    let pages = physical_pages(alloc, shape, scan)?;
-    let zeros = owners(alloc, &pages)?;
+    let zeros = owners(alloc, shape, scan)?;
     let mut earlier = Earlier::new(alloc, 2 * held.len() as usize)?;
     'held: for at in 0..held.len() {
         let one = held.get(at);

@@ -8,4 +8,5 @@ returns-then-keep c s t = c.keep.ensures.kept c.if-keep.true s t (get key_cmp c.
 
 pub returns : goal.returns
 returns c =
-    owned_other c.args.self.now.kept.items c.keep.new.kept.items c.args.stamp c.args.tag.now c.args.from c.args.self.now.more c.note.new.zeros (c.keep.ensures.same c.if-keep.false) c.in_ok-note.ensures
+    owned_other c.args.self.now.kept.items c.keep.new.kept.items c.args.owned.stamp c.args.owned.tag c.args.owned.zeros c.args.self.now.more c.note.new.zeros (c.keep.ensures.same c.if-keep.false)
+    c.in_ok-note.ensures
