@@ -1,11 +1,12 @@
 -- Numbers at places by their remainders, with one more.
 use Rattle.std.proofs.Common.{◌≡◌, ℕ, ◌<◌, ◌≤◌, Bool, true, false, ◌||◌, cond, List, length, get_or, set, replicate, Option, Some, None, ⊎_elim, refl, sym, ◌∙◌, ap, arith}
-use Rattle.std.specs.Prelude.{◌==◌}
+use Rattle.std.specs.Prelude.{◌==◌, is_none, slice_get}
 use Rattle.std.specs.BTreeSet.{BTreeSet, IsEmpty, Updates, contains}
 use Rattle.std.specs.List.{list_any}
 use Rattle.std.specs.Ordering.{is_eq, nat_cmp}
-use Rattle.std.proofs.lemmas.Bool.{cases_lt, eqb-false}
+use Rattle.std.proofs.lemmas.Bool.{cases_lt, eqb-false, false≢true}
 use Rattle.std.proofs.lemmas.List.{get_or-replicate, get_or-set_other, get_or-set_same, get_or_past, length-replicate, length-set}
+use Rattle.std.proofs.lemmas.Option.{get_or_from_slice_get}
 use Rattle.nl_recover_pointers.specs.Numbers.{is_it, is_kept, place_in}
 use Rattle.nl_recover_pointers.proofs.Keys.{grouped, number_is, number_test, or_added}
 
@@ -26,6 +27,11 @@ blank {X} count at = ⊎_elim (λ less. get_or-replicate count at None None less
 
 pub none_kept : (count : ℕ) (more : BTreeSet ℕ) → IsEmpty more → (n : ℕ) → (is_kept (replicate count None) n || contains nat_cmp more n) ≡ false
 none_kept count more none n = (λ i. is_it n (blank {X = ℕ} count (place_in (length (replicate {A = Option ℕ} count None)) n) i) || no_number more none n i)
+
+-- a place that is there and has nothing is free
+pub free_by : {X : Type 0} (kept : List (Option X)) (at : ℕ) (one : Option X) → slice_get kept at ≡ Some one → is_none one ≡ true → get_or kept at None ≡ None
+free_by kept at None is none = get_or_from_slice_get kept at None None is
+free_by kept at (Some x) is none = absurd (false≢true none)
 
 pub put_here : {X : Type 0} (kept : List (Option X)) (at j : ℕ) (x : X) → at < length kept → j ≡ at → get_or (set kept at (Some x)) j None ≡ Some x
 put_here kept at j x within here = ap (λ k. get_or (set kept at (Some x)) k None) here ∙ get_or-set_same kept at (Some x) None within

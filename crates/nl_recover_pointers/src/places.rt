@@ -67,7 +67,8 @@ impl Places {
 
     // Adds a page, where it is one of the physical segment.
     fn see(&mut self, shape: &Shape, seen: &Seen) -> Result<(), Memory>
-        ensures pages { OnOk result ((p : ℕ) → has_place self.new p ≡ (has_place self.old p || (is_file shape.now seen.now && seen.now.page == p))) }
+        ensures pages { OnOk result ((p : ℕ) → has_place self.new p
+            ≡ (has_place self.old p || (is_file shape.now seen.now && seen.now.page == p))) }
         ensures stamped { OnOk result ((p s : ℕ) → is_at self.new p s
             ≡ (is_at self.old p s || (is_file shape.now seen.now && (seen.now.page == p && stamp_of seen.now.rec == s)))) }
     {
