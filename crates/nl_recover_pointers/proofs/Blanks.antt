@@ -34,12 +34,12 @@ blank_by_marks seen size first count marks same each =
 -- one that passes is found, where each passes that is blank
 found_blank : (blank p : ℕ → Bool) → ((n : ℕ) → blank n ≡ true → p n ≡ true) → (ns : List ℕ) → list_any blank ns ≡ true → is_some (find p ns) ≡ true
 found_blank blank p passes [] any = any
-found_blank blank p passes (n ∷ ns) any = by (blank n) (p n) refl refl any
+found_blank blank p passes (n ∷ ns) any = by (blank n) (p n) refl refl any (found_blank blank p passes ns)
   where
-    by : (b q : Bool) → blank n ≡ b → p n ≡ q → (b || list_any blank ns) ≡ true → is_some (cond q (Some n) (find p ns)) ≡ true
-    by b true is_blank is_one any = refl
-    by true false is_blank is_one any = absurd (false≢true (sym is_one ∙ passes n is_blank))
-    by false false is_blank is_one any = found_blank blank p passes ns any
+    by : (b q : Bool) → blank n ≡ b → p n ≡ q → (b || list_any blank ns) ≡ true → (list_any blank ns ≡ true → is_some (find p ns) ≡ true) → is_some (cond q (Some n) (find p ns)) ≡ true
+    by b true is_blank is_one any later = refl
+    by true false is_blank is_one any later = absurd (false≢true (sym is_one ∙ passes n is_blank))
+    by false false is_blank is_one any later = later any
 
 module _ (size block : ℕ) (needed copied : Seen → Bool) (test : Seen → Bool) where
   abbrev may_go : Seen → Bool
@@ -47,17 +47,13 @@ module _ (size block : ℕ) (needed copied : Seen → Bool) (test : Seen → Boo
 
   all_go : (seen : List Seen) → not (list_any (is_within size block) seen) ≡ true → list_all may_go (filter test seen) ≡ true
   all_go [] none = refl
-  all_go (s ∷ seen) none = by (test s)
+  all_go (s ∷ seen) none =
+      let parts = or_parts (s.page / size == block) (list_any (is_within size block) seen) (not-true ((s.page / size == block) || list_any (is_within size block) seen) none) in
+      by (test s) parts.0 (all_go seen (not_from_false (list_any (is_within size block) seen) parts.1))
     where
-      parts : ((s.page / size == block) ≡ false) × (list_any (is_within size block) seen ≡ false)
-      parts = or_parts (s.page / size == block) (list_any (is_within size block) seen) (not-true ((s.page / size == block) || list_any (is_within size block) seen) none)
-
-      rest : list_all may_go (filter test seen) ≡ true
-      rest = all_go seen (not_from_false (list_any (is_within size block) seen) parts.1)
-
-      by : (kept : Bool) → list_all may_go (cond kept (s ∷ filter test seen) (filter test seen)) ≡ true
-      by true = ap (λ x. (not (x && needed s) || copied s) && list_all may_go (filter test seen)) parts.0 ∙ rest
-      by false = rest
+      by : (kept : Bool) → (s.page / size == block) ≡ false → list_all may_go (filter test seen) ≡ true → list_all may_go (cond kept (s ∷ filter test seen) (filter test seen)) ≡ true
+      by true apart rest = ap (λ x. (not (x && needed s) || copied s) && list_all may_go (filter test seen)) apart ∙ rest
+      by false apart rest = rest
 
 module _ (size first count : ℕ) (test needed : Seen → Bool) (copy : Seen → Seen → Bool) (seen : List Seen) where
   spare_of_blank : has_blank size first count seen ≡ true → is_some (spare_among on_list size first count (filter test seen) needed copy) ≡ true

@@ -84,7 +84,7 @@ pub no_places : (count : ℕ) (kept : List (Option ℕ)) (pages : BTreeSet ℕ) 
     → ((p : ℕ) → (is_some (get_or kept p None) || contains nat_cmp pages p) ≡ false)
     × ((p t : ℕ) → (is_it t (get_or kept p None) || contains pair_cmp stamped (place_key p t)) ≡ false)
 no_places count kept pages stamped is none no_stamped =
-    (λ p. λ i. is_some (nothing p i) || no_number pages none p i), (λ p t. λ i. is_it t (nothing p i) || no_pair stamped no_stamped p t i)
+    ((λ p. λ i. is_some (nothing p i) || no_number pages none p i), (λ p t. λ i. is_it t (nothing p i) || no_pair stamped no_stamped p t i))
   where
     nothing : (p : ℕ) → get_or kept p None ≡ None
     nothing p = ap (λ l. get_or l p None) is ∙ blank {X = ℕ} count p

@@ -77,8 +77,8 @@ AddsOwned old new owned = (s : ℕ) (t : Tag) → zeros_at new s t ≡ and_page 
 -- ---- the pages that a scan saw
 
 abbrev pub owned_by : ℕ → SpareRec → Option Owned
-owned_by zeros (Virtual vaddr stamp wear) = None
-owned_by zeros (Physical tag stamp wear) = Some (record { stamp = stamp; tag = tag; zeros = zeros })
+owned_by from (Virtual vaddr stamp wear) = None
+owned_by from (Physical tag stamp wear) = Some (record { stamp = stamp; tag = tag; zeros = from })
 
 -- the number, the owner and the offset of a page of the physical segment
 abbrev pub owned_in : Shape → Seen → Option Owned
