@@ -1,5 +1,6 @@
 pub mod AddressFacts
 pub mod Alike
+pub mod Blanks
 pub mod EntryFacts
 pub mod Firsts
 pub mod FreeFacts

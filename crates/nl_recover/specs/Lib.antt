@@ -1,4 +1,5 @@
 pub mod Addresses
+pub mod Blank
 pub mod Entries
 pub mod Filling
 pub mod Freeing

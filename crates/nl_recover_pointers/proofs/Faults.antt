@@ -3,31 +3,29 @@ use Rattle.std.proofs.Common.{◌≡◌, ℕ, ◌-◌, ◌*◌, Bool, true, fals
 use Rattle.std.specs.Prelude.{◌==◌, nat_lt}
 use Rattle.std.specs.Int.{div_ceil}
 use Rattle.std.specs.List.{list_any}
-use Rattle.std.specs.BTreeMap.{BTreeMap, get}
-use Rattle.std.specs.BTreeSet.{IsEmpty, Updates, contains}
-use Rattle.std.specs.Ordering.{nat_cmp}
 use Rattle.nl_field.specs.declared.seen.Seen.{Seen}
 use Rattle.nl_meta.specs.Nodes.{Held}
 use Rattle.nl_meta.specs.Walk.{first_after, is_bad_pointer, pointer_fault, has_page}
-use Rattle.nl_recover_pointers.specs.Owners.{AreOwned, PageKey, is_zero_from, key_cmp, key_of}
+use Rattle.nl_recover_pointers.specs.Numbers.{AddsNumber, HasNone, has_number}
+use Rattle.nl_recover_pointers.specs.Owners.{AreOwned, is_zero_from, zeros_at}
 use Rattle.nl_recover_pointers.specs.declared.earlier.Earlier.{Earlier}
+use Rattle.nl_recover_pointers.specs.declared.owners.Zeros.{Zeros}
 use Rattle.nl_recover_pointers.proofs.Owning.{has_page_by_key}
-use Rattle.nl_recover_pointers.proofs.Placing.{no_number, number_added}
 
 -- No pointer before the rest is at fault, and their numbers and names are those known as earlier.
 pub record HasPassed (physicals : List Seen) (held rest : List Held) (earlier : Earlier) : Type 0 where
   pub before : List Held
   pub fault : option_map (λ h. h.tag.ino) (first_after (is_bad_pointer physicals) before rest) ≡ pointer_fault physicals held
-  pub stamps : (stamp : ℕ) → contains nat_cmp earlier.stamps stamp ≡ list_any (λ e. e.pointer.stamp == stamp) before
-  pub names : (name : ℕ) → contains nat_cmp earlier.names name ≡ list_any (λ e. e.pointer.name == name) before
+  pub stamps : (stamp : ℕ) → has_number earlier.stamps stamp ≡ list_any (λ e. e.pointer.stamp == stamp) before
+  pub names : (name : ℕ) → has_number earlier.names name ≡ list_any (λ e. e.pointer.name == name) before
 
-pub passed_none : (physicals : List Seen) (held : List Held) (earlier : Earlier) → IsEmpty earlier.stamps → IsEmpty earlier.names → HasPassed physicals held held earlier
+pub passed_none : (physicals : List Seen) (held : List Held) (earlier : Earlier) → HasNone earlier.stamps → HasNone earlier.names → HasPassed physicals held held earlier
 unfolding pointer_fault
 passed_none physicals held earlier stamps names = record {
   before = [];
   fault = refl;
-  stamps = no_number earlier.stamps stamps;
-  names = no_number earlier.names names;
+  stamps = stamps;
+  names = names;
 }
 
 either : (p q : Held → Bool) (xs : List Held) → list_any (λ e. p e || q e) xs ≡ (list_any p xs || list_any q xs)
@@ -41,17 +39,17 @@ either p q (x ∷ xs) = ap (λ r. (p x || q x) || r) (either p q xs) ∙ by (p x
     by false false c d = refl
 
 -- what the code tests, of what it knows
-abbrev pub is_found_bad : BTreeMap PageKey ℕ → Earlier → Held → Bool
+abbrev pub is_found_bad : Zeros → Earlier → Held → Bool
 is_found_bad zeros earlier h =
-    not (nat_lt h.tag.index (div_ceil h.size 4096)) || (contains nat_cmp earlier.stamps h.pointer.stamp || contains nat_cmp earlier.names h.pointer.name)
-    || not (is_zero_from (h.size - 4096 * h.tag.index) (get key_cmp zeros (key_of h.pointer.stamp h.tag)))
+    not (nat_lt h.tag.index (div_ceil h.size 4096)) || (has_number earlier.stamps h.pointer.stamp || has_number earlier.names h.pointer.name)
+    || not (is_zero_from (h.size - 4096 * h.tag.index) (zeros_at zeros h.pointer.stamp h.tag))
 
-pub found_bad : (physicals : List Seen) (held rest : List Held) (zeros : BTreeMap PageKey ℕ) (earlier : Earlier) (h : Held) → AreOwned physicals zeros → (p : HasPassed physicals held rest earlier)
+pub found_bad : (physicals : List Seen) (held rest : List Held) (zeros : Zeros) (earlier : Earlier) (h : Held) → AreOwned physicals zeros → (p : HasPassed physicals held rest earlier)
     → is_found_bad zeros earlier h ≡ is_bad_pointer physicals p.before h
 found_bad physicals held rest zeros earlier h owned p =
-    let seen : (contains nat_cmp earlier.stamps h.pointer.stamp || contains nat_cmp earlier.names h.pointer.name) ≡ list_any (λ e. e.pointer.stamp == h.pointer.stamp || e.pointer.name == h.pointer.name) p.before =
+    let seen : (has_number earlier.stamps h.pointer.stamp || has_number earlier.names h.pointer.name) ≡ list_any (λ e. e.pointer.stamp == h.pointer.stamp || e.pointer.name == h.pointer.name) p.before =
     (λ i. p.stamps h.pointer.stamp i || p.names h.pointer.name i) ∙ sym (either (λ e. e.pointer.stamp == h.pointer.stamp) (λ e. e.pointer.name == h.pointer.name) p.before) in
-    let page : is_zero_from (h.size - 4096 * h.tag.index) (get key_cmp zeros (key_of h.pointer.stamp h.tag)) ≡ has_page physicals h =
+    let page : is_zero_from (h.size - 4096 * h.tag.index) (zeros_at zeros h.pointer.stamp h.tag) ≡ has_page physicals h =
     ap (is_zero_from (h.size - 4096 * h.tag.index)) (owned h.pointer.stamp h.tag) ∙ has_page_by_key physicals h in
     λ i. not (nat_lt h.tag.index (div_ceil h.size 4096)) || seen i || not (page i)
 
@@ -60,10 +58,10 @@ pub passed_fault : (physicals : List Seen) (held rest : List Held) (earlier : Ea
 passed_fault physicals held rest earlier h p bad = sym (ap (λ b. option_map (λ e. e.tag.ino) (cond b (Some h) (first_after (is_bad_pointer physicals) (h ∷ p.before) rest))) bad) ∙ p.fault
 
 pub passed_more : (physicals : List Seen) (held rest : List Held) (old new : Earlier) (h : Held) → (p : HasPassed physicals held (h ∷ rest) old) → is_bad_pointer physicals p.before h ≡ false
-    → Updates nat_cmp old.stamps new.stamps h.pointer.stamp true → Updates nat_cmp old.names new.names h.pointer.name true → HasPassed physicals held rest new
+    → AddsNumber old.stamps new.stamps h.pointer.stamp → AddsNumber old.names new.names h.pointer.name → HasPassed physicals held rest new
 passed_more physicals held rest old new h p good stamps names = record {
   before = h ∷ p.before;
   fault = sym (ap (λ b. option_map (λ e. e.tag.ino) (cond b (Some h) (first_after (is_bad_pointer physicals) (h ∷ p.before) rest))) good) ∙ p.fault;
-  stamps = λ stamp. number_added old.stamps new.stamps h.pointer.stamp stamps stamp ∙ ap (λ x. h.pointer.stamp == stamp || x) (p.stamps stamp);
-  names = λ name. number_added old.names new.names h.pointer.name names name ∙ ap (λ x. h.pointer.name == name || x) (p.names name);
+  stamps = λ stamp. stamps stamp ∙ ap (λ x. h.pointer.stamp == stamp || x) (p.stamps stamp);
+  names = λ name. names name ∙ ap (λ x. h.pointer.name == name || x) (p.names name);
 }

@@ -54,3 +54,17 @@ or_moved false before later = refl
 pub or_added : (one before : Bool) → cond one true before ≡ (one || before)
 or_added true before = refl
 or_added false before = refl
+
+pub grouped : (x y z : Bool) → ((x || y) || z) ≡ (x || (y || z))
+grouped true y z = refl
+grouped false y z = refl
+
+pub or_false : (b : Bool) → (b || false) ≡ b
+or_false true = refl
+or_false false = refl
+
+-- a test of one more item before the others
+pub swapped : (one before later : Bool) → ((one || before) || later) ≡ (before || (one || later))
+swapped true true later = refl
+swapped true false later = refl
+swapped false before later = refl

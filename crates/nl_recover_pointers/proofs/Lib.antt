@@ -1,7 +1,9 @@
+pub mod Blanks
 pub mod Copying
 pub mod Crowding
 pub mod Faults
 pub mod Keys
+pub mod Numbering
 pub mod Owning
 pub mod Placing
 pub mod Rests

@@ -1,18 +1,28 @@
 -- From where the pages of a number and an owner are zero.
-use Rattle.std.proofs.Common.{◌≡◌, ℕ, ◌-◌, ◌*◌, Bool, true, false, not, ◌&&◌, ◌||◌, max, cond, List, [], ◌∷◌, Option, Some, None, refl, sym, ◌∙◌, ap, arith}
-use Rattle.std.specs.Prelude.{◌==◌, nat_le, fold}
+use Rattle.std.proofs.Common.{◌≡◌, ℕ, ◌-◌, ◌*◌, ◌<◌, Bool, true, false, not, ◌&&◌, ◌||◌, max, cond, List, [], ◌∷◌, length, get_or, set, replicate, Option, Some, None, refl, sym, ◌∙◌, ap, arith}
+use Rattle.std.specs.Prelude.{◌==◌, filter, fold, nat_le}
 use Rattle.std.specs.List.{list_all, list_any}
 use Rattle.std.specs.BTreeMap.{BTreeMap, Updates, get}
+use Rattle.std.specs.Map.{lookup}
+use Rattle.std.specs.Ordering.{is_eq}
 use Rattle.std.proofs.lemmas.Bool.{and_parts}
 use Rattle.std.proofs.lemmas.Bool.Decides.{nat_tests}
+use Rattle.std.proofs.lemmas.List.{length-set}
+use Rattle.nl_field.specs.Medium.{first_physical, is_physical_rec}
+use Rattle.nl_field.specs.ScanList.{physical_seen}
 use Rattle.nl_field.specs.SpareRecord.{stamp_of}
 use Rattle.nl_field.specs.declared.pointer.Tag.{Tag}
 use Rattle.nl_field.specs.declared.seen.Seen.{Seen}
+use Rattle.nl_field.specs.declared.shape.Shape.{Shape}
+use Rattle.nl_field.specs.declared.spare.SpareRec.{SpareRec}
 use Rattle.nl_field.specs.declared.spare.SpareRec.TheVariants.{Virtual, Physical}
 use Rattle.nl_meta.specs.Nodes.{Held}
 use Rattle.nl_meta.specs.Walk.{has_page, has_tag, tag_eq}
-use Rattle.nl_recover_pointers.specs.Owners.{PageKey, greatest_zeros, is_zero_from, key_cmp, key_of, more_zeros, with_page}
+use Rattle.nl_recover_pointers.specs.Numbers.{place_in}
+use Rattle.nl_recover_pointers.specs.Owners.{KeepsOwned, PageKey, and_owned, and_page, greatest_zeros, is_zero_from, key_cmp, key_of, more_zeros, owned_by, owned_in, with_page, zeros_and, zeros_kept, zeros_of}
+use Rattle.nl_recover_pointers.specs.declared.owners.Owned.{Owned}
 use Rattle.nl_recover_pointers.proofs.Keys.{key_test, number_is}
+use Rattle.nl_recover_pointers.proofs.Numbering.{blank, put_elsewhere, put_here, was_free}
 
 same_tag : (a b : Tag) → tag_eq b a ≡ true → a ≡ b
 same_tag a b is =
@@ -35,20 +45,75 @@ at_key s t a b from old new updates =
     noted s t a b from old new (s == t && tag_eq b a) refl
     (updates.0 (key_of t b) ∙ ap (λ x. cond x (Some (more_zeros (get key_cmp old (key_of s a)) from)) (get key_cmp old (key_of t b))) (key_test s t a b))
 
--- a page with a record of the physical kind is noted under its key
-pub owned_more : (s : ℕ) (a : Tag) (wear : ℕ) (page : Seen) (old new : BTreeMap PageKey ℕ) → page.rec ≡ Physical a s wear
-    → Updates key_cmp old new (key_of s a) (Some (more_zeros (get key_cmp old (key_of s a)) page.zeros)) → (t : ℕ) (b : Tag) → get key_cmp new (key_of t b) ≡ with_page t b (get key_cmp old (key_of t b)) page
-owned_more s a wear page old new is updates t b =
-    at_key s t a b page.zeros old new updates
-    ∙ sym (ap (λ r. cond (stamp_of r == t && has_tag b r) (Some (more_zeros (get key_cmp old (key_of t b)) page.zeros)) (get key_cmp old (key_of t b))) is)
+-- ---- pages that are kept at places
 
-none_of_virtual : (x : Bool) (y z : Option ℕ) → cond (x && false) y z ≡ z
-none_of_virtual true y z = refl
-none_of_virtual false y z = refl
+-- what is found at a place, once a page was put at a free one
+found : (kept : List (Option Owned)) (at j : ℕ) (o : Owned) (t : ℕ) (b : Tag) (others : Option ℕ) → at < length kept → get_or kept at None ≡ None → (o.stamp ≡ t → j ≡ at)
+    → (test : Bool) → (o.stamp == t && tag_eq b o.tag) ≡ test
+    → zeros_and (zeros_of t b (get_or (set kept at (Some o)) j None)) others
+    ≡ cond test (Some (more_zeros (zeros_and (zeros_of t b (get_or kept j None)) others) o.zeros)) (zeros_and (zeros_of t b (get_or kept j None)) others)
+found kept at j o t b others within free same true is =
+    let here : j ≡ at = same (number_is o.stamp t (and_parts (o.stamp == t) (tag_eq b o.tag) is).0) in
+    ap (λ z. zeros_and z others) (ap (zeros_of t b) (put_here kept at j o within here) ∙ ap (λ x. cond x (Some o.zeros) None) is)
+    ∙ sym (ap (λ z. Some (more_zeros (zeros_and (zeros_of t b z) others) o.zeros)) (was_free kept at j free here))
+found kept at j o t b others within free same false is = by (j == at) refl
+  where
+    by : (here : Bool) → (j == at) ≡ here → zeros_and (zeros_of t b (get_or (set kept at (Some o)) j None)) others ≡ zeros_and (zeros_of t b (get_or kept j None)) others
+    by true e =
+        ap (λ z. zeros_and z others) (ap (zeros_of t b) (put_here kept at j o within (number_is j at e)) ∙ ap (λ x. cond x (Some o.zeros) None) is)
+        ∙ sym (ap (λ z. zeros_and (zeros_of t b z) others) (was_free kept at j free (number_is j at e)))
+    by false e = ap (λ z. zeros_and (zeros_of t b z) others) (put_elsewhere kept at j o e)
 
--- one of the virtual kind has no owner
-pub owned_same : (vaddr s wear : ℕ) (page : Seen) (zeros : Option ℕ) → page.rec ≡ Virtual vaddr s wear → (t : ℕ) (b : Tag) → with_page t b zeros page ≡ zeros
-owned_same vaddr s wear page zeros is t b = ap (λ r. cond (stamp_of r == t && has_tag b r) (Some (more_zeros zeros page.zeros)) zeros) is ∙ none_of_virtual (s == t) (Some (more_zeros zeros page.zeros)) zeros
+-- a page is kept at the place of its number, which was free
+pub put_owned : (kept : List (Option Owned)) (o : Owned) (at : ℕ) → at ≡ place_in (length kept) o.stamp → at < length kept → get_or kept at None ≡ None → KeepsOwned kept (set kept at (Some o)) o
+put_owned kept o at at_is within free t b others =
+    ap (λ count. zeros_and (zeros_of t b (get_or (set kept at (Some o)) (place_in count t) None)) others) (length-set kept at (Some o))
+    ∙ found kept at (place_in (length kept) t) o t b others within free (λ e. ap (place_in (length kept)) (sym e) ∙ sym at_is) (o.stamp == t && tag_eq b o.tag) refl
+
+swapped : (k from : ℕ) → max k from ≡ max from k
+swapped k from = omega arith
+
+exchanged : (k from g : ℕ) → max k (max from g) ≡ max from (max k g)
+exchanged k from g = omega arith
+
+and_more : (zeros others : Option ℕ) (from : ℕ) (test : Bool) → zeros_and zeros (cond test (Some (more_zeros others from)) others) ≡ cond test (Some (more_zeros (zeros_and zeros others) from)) (zeros_and zeros others)
+and_more zeros others from false = refl
+and_more None others from true = refl
+and_more (Some k) None from true = ap Some (swapped k from)
+and_more (Some k) (Some g) from true = ap Some (exchanged k from g)
+
+-- a page is one of the others
+pub owned_other : (kept new_kept : List (Option Owned)) (s : ℕ) (a : Tag) (from : ℕ) (old new : BTreeMap PageKey ℕ) → new_kept ≡ kept
+    → Updates key_cmp old new (key_of s a) (Some (more_zeros (get key_cmp old (key_of s a)) from)) → (t : ℕ) (b : Tag)
+    → zeros_and (zeros_kept new_kept t b) (get key_cmp new (key_of t b)) ≡ and_page s a from (zeros_and (zeros_kept kept t b) (get key_cmp old (key_of t b))) t b
+owned_other kept new_kept s a from old new same updates t b =
+    ap (λ l. zeros_and (zeros_kept l t b) (get key_cmp new (key_of t b))) same
+    ∙ (ap (zeros_and (zeros_kept kept t b)) (at_key s t a b from old new updates) ∙ and_more (zeros_kept kept t b) (get key_cmp old (key_of t b)) from (s == t && tag_eq b a))
+
+-- no page
+pub no_owner : (count : ℕ) (more : BTreeMap PageKey ℕ) → more.entries ≡ [] → (s : ℕ) (t : Tag) → zeros_and (zeros_kept (replicate count None) s t) (get key_cmp more (key_of s t)) ≡ None
+no_owner count more none s t =
+    ap (λ z. zeros_and (zeros_of s t z) (get key_cmp more (key_of s t))) (blank {X = Owned} count (place_in (length (replicate {A = Option Owned} count None)) s))
+    ∙ ap (λ (es : List (PageKey × ℕ)). lookup (λ k. is_eq (key_cmp (key_of s t) k)) es) none
+
+-- ---- the pages that a scan saw
+
+-- one more of them
+pub seen_more : (shape : Shape) (x : Seen) (rest : List Seen) (s : ℕ) (t : Tag) (old : Option ℕ)
+    → fold (with_page s t) old (physical_seen shape (x ∷ rest)) ≡ fold (with_page s t) (and_owned (owned_in shape x) old s t) (physical_seen shape rest)
+unfolding physical_seen
+seen_more shape x rest s t old = by (nat_le (first_physical shape) x.page) x.rec refl
+  where
+    by : (b : Bool) (rec : SpareRec) → x.rec ≡ rec
+        → fold (with_page s t) old (cond (b && is_physical_rec rec) (x ∷ filter (λ s. nat_le (first_physical shape) s.page && is_physical_rec s.rec) rest) (filter (λ s. nat_le (first_physical shape) s.page && is_physical_rec s.rec) rest))
+        ≡ fold (with_page s t) (and_owned (cond b (owned_by x.zeros rec) None) old s t) (filter (λ s. nat_le (first_physical shape) s.page && is_physical_rec s.rec) rest)
+    by false rec is = refl
+    by true (Virtual vaddr stamp wear) is = refl
+    by true (Physical tag stamp wear) is = ap (λ r. fold (with_page s t) (cond (stamp_of r == s && has_tag t r) (Some (more_zeros old x.zeros)) old) (filter (λ s. nat_le (first_physical shape) s.page && is_physical_rec s.rec) rest)) is
+
+pub seen_none : (shape : Shape) (s : ℕ) (t : Tag) (old : Option ℕ) → fold (with_page s t) old (physical_seen shape []) ≡ old
+unfolding physical_seen
+seen_none shape s t old = refl
 
 -- ---- what the greatest offset tells
 

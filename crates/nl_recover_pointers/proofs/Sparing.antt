@@ -1,12 +1,14 @@
 -- The blocks that can be erased, by the spreads of copies and by marks.
-use Rattle.std.proofs.Common.{◌≡◌, ℕ, suc, ◌+◌, ◌<◌, Bool, true, false, not, ◌&&◌, ◌||◌, cond, List, [], ◌∷◌, length, get_or, Some, refl, sym, ◌∙◌, ap, arith}
+use Rattle.std.proofs.Common.{◌≡◌, ℕ, suc, ◌+◌, ◌<◌, Bool, true, false, not, ◌&&◌, ◌||◌, cond, List, [], ◌∷◌, length, get_or, Some, ⊎_elim, refl, sym, ◌∙◌, ap, arith}
 use Rattle.std.specs.Prelude.{◌==◌, fold}
 use Rattle.std.specs.List.{list_all, list_any, range_with_len}
 use Rattle.std.specs.BTreeMap.{BTreeMap, Updates, get}
-use Rattle.std.proofs.lemmas.Bool.{and_parts}
+use Rattle.std.specs.Map.{lookup}
+use Rattle.std.specs.Ordering.{is_eq}
+use Rattle.std.proofs.lemmas.Bool.{and_parts, not-true, not_from_false, or_cases, or_left, or_parts, or_right, true≢false}
 use Rattle.std.proofs.lemmas.Bool.Decides.{nat_tests}
 use Rattle.nl_recover_pointers.specs.Places.{PlaceKey, pair_cmp, place_key}
-use Rattle.nl_recover_pointers.specs.Spare.{has_other, has_spare, is_alone_in, is_copy, is_spare_among, spread_among, spread_at, spread_more, with_copy}
+use Rattle.nl_recover_pointers.specs.Spare.{AreSpreads, has_other, has_spare, is_alone_in, is_copy, is_spare_among, spread_among, spread_at, spread_more, with_copy}
 use Rattle.nl_recover_pointers.specs.declared.spare.PageCopy.{PageCopy}
 use Rattle.nl_recover_pointers.specs.declared.spare.Spread.{Spread}
 use Rattle.nl_recover_pointers.specs.declared.spare.Spread.TheVariants.{Nowhere, In, Several}
@@ -103,7 +105,7 @@ spare_by_spreads : (pages : List PageCopy) (block : ℕ) → is_spare_among page
 spare_by_spreads pages block =
     each_page (λ r. not (r.block == block && r.is_needed) || list_any (λ q. not (q.block == block) && is_copy q r) pages) (stands_alone pages block) (one_page pages block) pages
 
-each_block : (f : ℕ → Bool) (first : ℕ) (marks : List Bool) → ((i : ℕ) → i < length marks → get_or marks i false ≡ not (f (first + i))) → not (list_all (λ mark. mark) marks) ≡ list_any f (range_with_len first (length marks))
+pub each_block : (f : ℕ → Bool) (first : ℕ) (marks : List Bool) → ((i : ℕ) → i < length marks → get_or marks i false ≡ not (f (first + i))) → not (list_all (λ mark. mark) marks) ≡ list_any f (range_with_len first (length marks))
 each_block f first [] each = refl
 each_block f first (m ∷ marks) each =
     let here : m ≡ not (f first) = each 0 (omega arith) ∙ ap (λ n. not (f n)) (omega arith) in
@@ -131,3 +133,55 @@ spare_by_marks pages first count marks same each =
     double : (x : Bool) → x ≡ not (not x)
     double true = refl
     double false = refl
+
+-- ---- blocks with no needed page
+
+-- by no copies a page stands alone where it is needed
+none_less : (spread : PageCopy → Spread) (block : ℕ) (pages : List PageCopy) → list_any (λ r. is_alone_in block Nowhere r) pages ≡ false → list_any (λ r. is_alone_in block (spread r) r) pages ≡ false
+none_less spread block [] none = refl
+none_less spread block (r ∷ pages) none =
+    let parts = or_parts (is_alone_in block Nowhere r) (list_any (λ r. is_alone_in block Nowhere r) pages) none in
+    λ i. by (r.block == block) r.is_needed (not (has_other r.block (spread r))) parts.0 i || none_less spread block pages parts.1 i
+  where
+    by : (x y z : Bool) → (x && (y && true)) ≡ false → (x && (y && z)) ≡ false
+    by true true z h = absurd (true≢false h)
+    by true false z h = refl
+    by false y z h = refl
+
+spare_unmarked : (pages : List PageCopy) (block : ℕ) → not (list_any (λ r. is_alone_in block Nowhere r) pages) ≡ true → is_spare_among pages block ≡ true
+spare_unmarked pages block unmarked =
+    spare_by_spreads pages block
+    ∙ not_from_false (list_any (stands_alone pages block) pages)
+    (none_less (λ r. spread_among pages r.address r.stamp) block pages (not-true (list_any (λ r. is_alone_in block Nowhere r) pages) unmarked))
+
+some_any : (f g : ℕ → Bool) → ((n : ℕ) → f n ≡ true → g n ≡ true) → (ns : List ℕ) → list_any f ns ≡ true → list_any g ns ≡ true
+some_any f g passes [] any = any
+some_any f g passes (n ∷ ns) any =
+    ⊎_elim (λ here. or_left (g n) (list_any g ns) (passes n here)) (λ later. or_right (g n) (list_any g ns) (some_any f g passes ns later)) (or_cases (f n) (list_any f ns) any)
+
+-- some block is not marked by no copies only where one can be erased
+pub spare_by_need : (pages : List PageCopy) (first count : ℕ) (marks : List Bool) → length marks ≡ count
+    → ((i : ℕ) → i < count → get_or marks i false ≡ list_any (λ r. is_alone_in (first + i) Nowhere r) pages) → not (list_all (λ mark. mark) marks) ≡ true → has_spare first count pages ≡ true
+unfolding has_spare
+spare_by_need pages first count marks same each unmarked =
+    some_any (λ block. not (list_any (λ r. is_alone_in block Nowhere r) pages)) (is_spare_among pages) (spare_unmarked pages) (range_with_len first count)
+    (sym (each_block (λ block. not (list_any (λ r. is_alone_in block Nowhere r) pages)) first marks
+    (λ i within. each i (omega (arith, within, same)) ∙ double (list_any (λ r. is_alone_in (first + i) Nowhere r) pages))
+    ∙ ap (λ n. list_any (λ block. not (list_any (λ r. is_alone_in block Nowhere r) pages)) (range_with_len first n)) same)
+    ∙ unmarked)
+  where
+    double : (x : Bool) → x ≡ not (not x)
+    double true = refl
+    double false = refl
+
+-- no copy is known where no spread is
+pub nowhere : (spreads : BTreeMap PlaceKey Spread) → spreads.entries ≡ [] → (pages : List PageCopy) (block : ℕ)
+    → list_any (λ r. is_alone_in block (spread_at (get pair_cmp spreads (place_key r.address r.stamp))) r) pages ≡ list_any (λ r. is_alone_in block Nowhere r) pages
+nowhere spreads none pages block =
+    ap (λ (es : List (PlaceKey × Spread)). list_any (λ r. is_alone_in block (spread_at (lookup (λ k. is_eq (pair_cmp (place_key r.address r.stamp) k)) es)) r) pages) none
+
+-- the spreads of these pages tell which stand alone
+pub by_spreads : (pages : List PageCopy) (spreads : BTreeMap PlaceKey Spread) → AreSpreads pages spreads → (block : ℕ) (some : List PageCopy)
+    → list_any (λ r. is_alone_in block (spread_at (get pair_cmp spreads (place_key r.address r.stamp))) r) some ≡ list_any (stands_alone pages block) some
+by_spreads pages spreads are block [] = refl
+by_spreads pages spreads are block (r ∷ some) = λ i. is_alone_in block (are r.address r.stamp i) r || by_spreads pages spreads are block some i

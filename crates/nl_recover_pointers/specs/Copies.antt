@@ -2,7 +2,6 @@
 use Rattle.std.specs.Prelude.{◌≡◌, ℕ, ◌/◌, ◌==◌, Bool, if◌then◌else◌, max, List, map, fold, unwrap_or}
 use Rattle.std.specs.List.{list_any}
 use Rattle.std.specs.BTreeMap.{BTreeMap, get}
-use Rattle.std.specs.BTreeSet.{BTreeSet, contains}
 use Rattle.std.specs.Ordering.{nat_cmp}
 use Rattle.nl_field.specs.Medium.{address_of}
 use Rattle.nl_field.specs.ScanList.{on_list}
@@ -10,6 +9,8 @@ use Rattle.nl_field.specs.Space.{has_greatest_among}
 use Rattle.nl_field.specs.SpareRecord.{stamp_of}
 use Rattle.nl_field.specs.declared.seen.Seen.{Seen}
 use Rattle.nl_meta.specs.Nodes.{Held}
+use Rattle.nl_recover_pointers.specs.Numbers.{has_number}
+use Rattle.nl_recover_pointers.specs.declared.numbers.Numbers.{Numbers}
 use Rattle.nl_recover_pointers.specs.declared.spare.PageCopy.{PageCopy}
 
 -- ---- the virtual segment
@@ -44,5 +45,5 @@ is_stamp_of held stamp = list_any (λ h. h.pointer.stamp == stamp) held
 unfoldable pub physical_copies : ℕ → List Held → List Seen → List PageCopy
 physical_copies size held pages = map (λ s. physical_copy size (is_stamp_of held (stamp_of s.rec)) s) pages
 
-abbrev pub HasStamps : List Held → BTreeSet ℕ → Type 0
-HasStamps held stamps = (stamp : ℕ) → contains nat_cmp stamps stamp ≡ is_stamp_of held stamp
+abbrev pub HasStamps : List Held → Numbers → Type 0
+HasStamps held stamps = (stamp : ℕ) → has_number stamps stamp ≡ is_stamp_of held stamp

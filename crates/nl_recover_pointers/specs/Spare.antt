@@ -1,5 +1,5 @@
 -- Which blocks can be erased: those each needed page of which has a copy in another block.
-use Rattle.std.specs.Prelude.{◌≡◌, ℕ, ◌==◌, Bool, true, false, not, ◌&&◌, ◌||◌, if◌then◌else◌, List, fold, Option, Some, None}
+use Rattle.std.specs.Prelude.{◌≡◌, ℕ, ◌+◌, ◌<◌, ◌==◌, Bool, true, false, not, ◌&&◌, ◌||◌, if◌then◌else◌, List, fold, length, slice_index_or, Option, Some, None}
 use Rattle.std.specs.List.{list_all, list_any, range_with_len}
 use Rattle.std.specs.BTreeMap.{BTreeMap, get}
 use Rattle.nl_recover_pointers.specs.Places.{PlaceKey, pair_cmp, place_key}
@@ -51,3 +51,10 @@ AreSpreads pages spreads =
 -- the page lies in this block, is needed, and by the spread of its copies has none in another block
 abbrev pub is_alone_in : ℕ → Spread → PageCopy → Bool
 is_alone_in block spread r = r.block == block && (r.is_needed && not (has_other r.block spread))
+
+-- those of the blocks from the first on, so many of them, are marked in which a page stands alone by these spreads
+pub record AreMarks (pages : List PageCopy) (spreads : BTreeMap PlaceKey Spread) (first count : ℕ) (marks : List Bool) : Type 0 where
+  pub count_is : length marks ≡ count
+  pub each : (i : ℕ) → i < count
+      → slice_index_or marks i false
+      ≡ list_any (λ r. is_alone_in (first + i) (spread_at (get pair_cmp spreads (place_key r.address r.stamp))) r) pages

@@ -1,20 +1,21 @@
 //! The pages of both segments as copies, each with whether it is needed.
 ghost use Rattle.std.specs.Prelude.{◌≡◌, ◌<◌, max, not, nat_lt, unwrap_or, map, true, IfOk, OnOk, Some};
 ghost use Rattle.std.specs.BTreeMap.{get, Updates};
-ghost use Rattle.std.specs.BTreeSet.{contains};
 ghost use Rattle.std.specs.Ordering.{nat_cmp};
 ghost use Rattle.nl_field.specs.Medium.{address_of};
 ghost use Rattle.nl_field.specs.ScanList.{virtual_seen, physical_seen};
 ghost use Rattle.nl_field.specs.SpareRecord.{stamp_of};
 ghost use Rattle.nl_recover_pointers.specs.Copies.{AreGreatest, HasStamps, physical_copies, virtual_copies, virtual_copy, physical_copy};
+ghost use Rattle.nl_recover_pointers.specs.Numbers.{has_number};
 
 use crate::HeldList;
+use crate::numbers::Numbers;
 use crate::pages::{physical_pages, stamp_on, virtual_pages};
 use crate::spare::PageCopy;
 use nl_field::{Memory, Seen, Shape, SpareRec};
 use nl_scan::ScanTables;
 use std::alloc::Global;
-use std::collections::{BTreeMap, BTreeSet};
+use std::collections::BTreeMap;
 
 fn address_on(rec: &SpareRec) -> u32
     ensures { result ≡ address_of rec.now }
@@ -89,26 +90,26 @@ pub fn virtual_copies(
 }
 
 /// The write sequence numbers of these pointers.
-fn stamps(alloc: Global, held: &HeldList) -> Result<BTreeSet<u64>, Memory>
+fn stamps(alloc: Global, held: &HeldList) -> Result<Numbers, Memory>
     ensures { IfOk result (HasStamps held.now) }
 {
-    let mut stamps = BTreeSet::new(alloc);
+    let mut stamps = Numbers::new(alloc, 2 * held.len() as usize)?;
     'held: for at in 0..held.len() {
-        stamps.insert(held.get(at).pointer.stamp)?;
+        stamps.add(held.get(at).pointer.stamp)?;
     }
     Ok(stamps)
 }
 
-fn physical_copy(size: u32, stamps: &BTreeSet<u64>, page: &Seen) -> PageCopy
+fn physical_copy(size: u32, stamps: &Numbers, page: &Seen) -> PageCopy
     requires { 0 < size }
-    ensures { result ≡ physical_copy size (contains nat_cmp stamps.now (stamp_of page.now.rec)) page.now }
+    ensures { result ≡ physical_copy size (has_number stamps.now (stamp_of page.now.rec)) page.now }
 {
     let stamp = stamp_on(&page.rec);
     PageCopy {
         block: page.page / size,
         address: 0,
         stamp,
-        is_needed: stamps.contains(&stamp),
+        is_needed: stamps.contains(stamp),
     }
 }
 

@@ -4,8 +4,8 @@ ghost use Rattle.nl_field.specs.ScanList.{is_lost_seen, virtual_spare_seen};
 ghost use Rattle.nl_meta.specs.Walk.{crowded_fault, spare_beside};
 
 use crate::HeldList;
+use crate::blank::has_blank;
 use crate::copies::{physical_copies, virtual_copies};
-use crate::pages::physical_pages;
 use crate::places::Places;
 use crate::spare::has_spare;
 use nl_field::{Memory, Shape};
@@ -16,6 +16,9 @@ fn has_virtual_spare(alloc: Global, shape: &Shape, scan: &ScanTables) -> Result<
     requires { 0 < shape.now.pages }
     ensures { IfOk result (λ has. has ≡ is_some (virtual_spare_seen shape.now scan.now.seen)) }
 {
+    if has_blank(alloc, scan, shape.pages, 0, shape.vblocks)? {
+        return Ok(true);
+    }
     let copies = virtual_copies(alloc, shape, scan)?;
     has_spare(alloc, &copies, 0, shape.vblocks)
 }
@@ -29,6 +32,9 @@ fn has_physical_spare(
     requires { 0 < shape.now.pages }
     ensures { IfOk result (λ has. has ≡ is_some (spare_beside shape.now scan.now.seen held.now)) }
 {
+    if has_blank(alloc, scan, shape.pages, shape.vblocks, shape.pblocks)? {
+        return Ok(true);
+    }
     let copies = physical_copies(alloc, shape, scan, held)?;
     has_spare(alloc, &copies, shape.vblocks, shape.pblocks)
 }
@@ -42,8 +48,7 @@ fn count_lost(
 ) -> Result<u32, Memory>
     ensures { IfOk result (λ lost. lost ≡ count_by (λ h. is_lost_seen shape.now scan.now.seen h.pointer) held.now) }
 {
-    let pages = physical_pages(alloc, shape, scan)?;
-    let places = Places::of(alloc, &pages)?;
+    let places = Places::of(alloc, shape, scan)?;
     let mut lost = 0;
     'held: for at in 0..held.len() {
         if !places.holds(&held.get(at).pointer) {

@@ -3,7 +3,6 @@ ghost use Rattle.std.specs.Prelude.{◌≡◌, IfOk};
 ghost use Rattle.nl_meta.specs.Walk.{name_fault};
 
 use crate::HeldList;
-use crate::pages::physical_pages;
 use crate::places::Places;
 use nl_field::{Memory, Shape};
 use nl_scan::ScanTables;
@@ -18,8 +17,7 @@ pub fn name_fault(
 ) -> Result<Option<u32>, Memory>
     ensures { IfOk result (λ place. place ≡ name_fault shape.now scan.now.seen held.now) }
 {
-    let pages = physical_pages(alloc, shape, scan)?;
-    let places = Places::of(alloc, &pages)?;
+    let places = Places::of(alloc, shape, scan)?;
     'held: for at in 0..held.len() {
         let pointer = held.get(at).pointer;
         if !places.owns(&pointer) {

@@ -18,8 +18,8 @@ pub fn stamp_on(rec: &SpareRec) -> u64
     }
 }
 
-// The number of the first physical page.
-fn virtual_end(shape: &Shape) -> u64
+/// The number of the first physical page.
+pub fn virtual_end(shape: &Shape) -> u64
     ensures { result ≡ first_physical shape.now }
 {
     shape.vblocks as u64 * shape.pages as u64
@@ -36,7 +36,8 @@ fn is_virtual(shape: &Shape, seen: &Seen) -> bool
     }
 }
 
-fn is_physical(shape: &Shape, seen: &Seen) -> bool
+/// Whether a page is one of the physical segment.
+pub fn is_physical(shape: &Shape, seen: &Seen) -> bool
     ensures { result ≡ (nat_le (first_physical shape.now) seen.now.page && is_physical_rec seen.now.rec) }
 {
     match seen.rec {

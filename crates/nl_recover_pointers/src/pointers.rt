@@ -1,34 +1,26 @@
 //! The phase of a walk that looks at each pointer of a file: its index, and the pages with its write sequence number.
-ghost use Rattle.std.specs.Prelude.{◌≡◌, ◌*◌, ◌-◌, ◌||◌, nat_lt, not, option_map, true, IfOk, OnOk};
-ghost use Rattle.std.specs.BTreeMap.{get};
-ghost use Rattle.std.specs.BTreeSet.{Updates, contains};
+ghost use Rattle.std.specs.Prelude.{◌≡◌, ◌*◌, ◌-◌, ◌||◌, nat_lt, not, option_map, IfOk, OnOk};
 ghost use Rattle.std.specs.Int.{div_ceil};
-ghost use Rattle.std.specs.Ordering.{nat_cmp};
 ghost use Rattle.nl_field.specs.ScanList.{physical_seen};
 ghost use Rattle.nl_meta.specs.Walk.{pointer_fault};
-ghost use Rattle.nl_recover_pointers.specs.Owners.{is_zero_from, key_cmp, key_of};
+ghost use Rattle.nl_recover_pointers.specs.Numbers.{AddsNumber, has_number};
+ghost use Rattle.nl_recover_pointers.specs.Owners.{is_zero_from, zeros_at};
 
 use crate::earlier::Earlier;
-use crate::owners::{PageKey, has_page, owners};
-use crate::pages::physical_pages;
+use crate::owners::{Zeros, has_page, owners};
 use crate::{HeldList, HeldPointer};
 use nl_field::{Memory, Shape};
 use nl_scan::ScanTables;
 use std::alloc::Global;
-use std::collections::BTreeMap;
 
 /// Whether a pointer is at fault behind the earlier ones. It is one of them afterwards.
-fn is_at_fault(
-    zeros: &BTreeMap<PageKey, u32>,
-    earlier: &mut Earlier,
-    held: &HeldPointer,
-) -> Result<bool, Memory>
+fn is_at_fault(zeros: &Zeros, earlier: &mut Earlier, held: &HeldPointer) -> Result<bool, Memory>
     ensures fault { IfOk result (λ fault. fault ≡ (not (nat_lt held.now.tag.index (div_ceil held.now.size 4096))
-        || (contains nat_cmp earlier.old.stamps held.now.pointer.stamp || contains nat_cmp earlier.old.names held.now.pointer.name)
+        || (has_number earlier.old.stamps held.now.pointer.stamp || has_number earlier.old.names held.now.pointer.name)
         || not (is_zero_from (held.now.size - 4096 * held.now.tag.index)
-        (get key_cmp zeros.now (key_of held.now.pointer.stamp held.now.tag))))) }
-    ensures stamps { OnOk result (Updates nat_cmp earlier.old.stamps earlier.new.stamps held.now.pointer.stamp true) }
-    ensures names { OnOk result (Updates nat_cmp earlier.old.names earlier.new.names held.now.pointer.name true) }
+        (zeros_at zeros.now held.now.pointer.stamp held.now.tag)))) }
+    ensures stamps { OnOk result (AddsNumber earlier.old.stamps earlier.new.stamps held.now.pointer.stamp) }
+    ensures names { OnOk result (AddsNumber earlier.old.names earlier.new.names held.now.pointer.name) }
 {
     let is_new = earlier.add(&held.pointer)?;
     let is_within = (held.tag.index as u64) < held.size.div_ceil(4096);
@@ -45,9 +37,8 @@ pub fn pointer_fault(
 ) -> Result<Option<u32>, Memory>
     ensures { IfOk result (λ place. place ≡ pointer_fault (physical_seen shape.now scan.now.seen) held.now) }
 {
-    let pages = physical_pages(alloc, shape, scan)?;
-    let zeros = owners(alloc, &pages)?;
-    let mut earlier = Earlier::new(alloc);
+    let zeros = owners(alloc, shape, scan)?;
+    let mut earlier = Earlier::new(alloc, 2 * held.len() as usize)?;
     'held: for at in 0..held.len() {
         let one = held.get(at);
         if is_at_fault(&zeros, &mut earlier, one)? {

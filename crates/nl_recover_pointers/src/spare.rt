@@ -3,7 +3,7 @@ ghost use Rattle.std.specs.Prelude.{◌≡◌, ◌+◌, ◌<◌, ◌&&◌, ◌||
 ghost use Rattle.std.specs.List.{list_all};
 ghost use Rattle.std.specs.BTreeMap.{get, Updates};
 ghost use Rattle.nl_recover_pointers.specs.Places.{pair_cmp, place_key};
-ghost use Rattle.nl_recover_pointers.specs.Spare.{AreSpreads, has_other, has_spare, is_alone_in, spread_at, spread_more};
+ghost use Rattle.nl_recover_pointers.specs.Spare.{AreMarks, AreSpreads, has_other, has_spare, is_alone_in, spread_at, spread_more};
 ghost use Rattle.nl_recover_pointers.specs.declared.spare.Spread.TheVariants.{Nowhere};
 
 use nl_field::Memory;
@@ -88,7 +88,7 @@ fn spreads(alloc: Global, pages: &Vec<PageCopy>) -> Result<BTreeMap<CopyKey, Spr
 }
 
 /// Marks a block, where it is one of those from the first one on.
-fn mark(marks: &mut Vec<bool>, first: u32, block: u32)
+pub fn mark(marks: &mut Vec<bool>, first: u32, block: u32)
     ensures count { length marks.new.items ≡ length marks.old.items }
     ensures each { (i : ℕ) → i < length marks.old.items
         → slice_index_or marks.new.items i false ≡ (slice_index_or marks.old.items i false || block == first + i) }
@@ -119,7 +119,7 @@ fn mark_alone(
 }
 
 /// Whether not each of them is marked.
-fn has_unmarked(marks: &Vec<bool>) -> bool
+pub fn has_unmarked(marks: &Vec<bool>) -> bool
     ensures { result ≡ not (list_all (λ mark. mark) marks.now.items) }
 {
     for mark in marks {
@@ -130,7 +130,25 @@ fn has_unmarked(marks: &Vec<bool>) -> bool
     false
 }
 
+/// Marks those of the blocks from the first on, so many of them, in which a needed page has by these spreads no copy in another block.
+fn marks(
+    alloc: Global,
+    pages: &Vec<PageCopy>,
+    spreads: &BTreeMap<CopyKey, Spread>,
+    first: u32,
+    count: u32,
+) -> Result<Vec<bool>, Memory>
+    ensures { IfOk result (λ marks. AreMarks pages.now.items spreads.now first count marks.items) }
+{
+    let mut marks = vec![in alloc; false; count as usize]?;
+    'pages: for at in 0..pages.len() {
+        mark_alone(&mut marks, spreads, first, &pages[at]);
+    }
+    Ok(marks)
+}
+
 /// Whether one of the blocks from the first on, so many of them, can be erased: each needed page of it has a copy in another block.
+/// Where one has no needed page, no copies are looked for.
 pub fn has_spare(
     alloc: Global,
     pages: &Vec<PageCopy>,
@@ -139,10 +157,12 @@ pub fn has_spare(
 ) -> Result<bool, Memory>
     ensures { IfOk result (λ has. has ≡ has_spare first count pages.now.items) }
 {
-    let spreads = spreads(alloc, pages)?;
-    let mut marks = vec![in alloc; false; count as usize]?;
-    'pages: for at in 0..pages.len() {
-        mark_alone(&mut marks, &spreads, first, &pages[at]);
+    let none = BTreeMap::new(alloc);
+    let needed = marks(alloc, pages, &none, first, count)?;
+    if has_unmarked(&needed) {
+        return Ok(true);
     }
-    Ok(has_unmarked(&marks))
+    let spreads = spreads(alloc, pages)?;
+    let alone = marks(alloc, pages, &spreads, first, count)?;
+    Ok(has_unmarked(&alone))
 }

@@ -12,7 +12,7 @@ held-preserved c =
     let seen = c.args.scan.now.seen in
     let one = held_of c.get.result.now in
     let rest = drop (c.held.at + 1) c.args.held.now in
-    let holds = sym (holds_test shape seen c.in_ok-pages.pages.items c.in_ok-places.places one.pointer c.in_ok-pages.ensures c.in_ok-places.ensures) ∙ sym c.holds.ensures in
+    let holds = sym (holds_test shape seen c.in_ok-places.places one.pointer c.in_ok-places.ensures) ∙ sym c.holds.ensures in
     let first = ap (count_lost shape seen) (drop_got c.args.held.now c.held.at one c.get.ensures) in
     elim c.if-not-holds.branch [
       | then-not-holds w ↦ let more = lost_more shape seen one rest (holds ∙ w.if-not-holds.true) in record { few = omega (arith, w.lost-is, c.held.invariant.few); rest = omega (arith, w.lost-is, first, more, c.held.invariant.rest) }

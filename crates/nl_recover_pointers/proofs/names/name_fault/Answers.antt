@@ -11,7 +11,7 @@ returns-then-not-owns c =
     let shape = c.args.shape.now in
     let seen = c.args.scan.now.seen in
     let one = held_of c.get.result.now in
-    let owns = sym (owns_test shape seen c.in_ok-pages.pages.items c.in_ok-places.places one.pointer c.in_ok-pages.ensures c.in_ok-places.ensures) ∙ sym c.owns.ensures in
+    let owns = sym (owns_test shape seen c.in_ok-places.places one.pointer c.in_ok-places.ensures) ∙ sym c.owns.ensures in
     sym (sym c.held.invariant ∙ ap (name_fault shape seen) (drop_got c.args.held.now c.held.at one c.get.ensures) ∙ name_taken shape seen one _ (owns ∙ c.if-not-owns.true))
 
 pub held-preserved : goal.held-preserved
@@ -19,7 +19,7 @@ held-preserved c =
     let shape = c.args.shape.now in
     let seen = c.args.scan.now.seen in
     let one = held_of c.get.result.now in
-    let owns = sym (owns_test shape seen c.in_ok-pages.pages.items c.in_ok-places.places one.pointer c.in_ok-pages.ensures c.in_ok-places.ensures) ∙ sym c.owns.ensures in
+    let owns = sym (owns_test shape seen c.in_ok-places.places one.pointer c.in_ok-places.ensures) ∙ sym c.owns.ensures in
     sym (ap (name_fault shape seen) (drop_got c.args.held.now c.held.at one c.get.ensures) ∙ name_owned shape seen one _ (owns ∙ c.if-not-owns.false)) ∙ c.held.invariant
 
 pub returns : goal.returns
