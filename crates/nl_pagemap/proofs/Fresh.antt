@@ -1,0 +1,134 @@
+-- A device that nothing was written to.
+use Rattle.std.proofs.Common.{◌≡◌, ⊎_elim, ℕ, zero, suc, ◌+◌, ◌-◌, ◌*◌, ◌/◌, ◌<◌, ◌≤◌, Bool, true, false, cond, count_by, List, Option, Some, None, is_some, option_map, length, replicate, get_or, refl, sym, ◌∙◌, ap, subst, arith}
+use Rattle.std.specs.List.{range_with_len}
+use Rattle.std.proofs.lemmas.Bool.{cases_lt}
+use Rattle.std.proofs.lemmas.List.{get_or-replicate, get_or_past, length-replicate}
+use Rattle.std.proofs.lemmas.List.Sums.{sum_by-cons}
+use Rattle.std.proofs.lemmas.Option.{none-some}
+use Rattle.nl_field.specs.Medium.{first_physical}
+use Rattle.nl_field.specs.Numbers.{ShapeBounds}
+use Rattle.nl_field.specs.Page.{Image}
+use Rattle.nl_field.specs.declared.shape.Shape.{Shape}
+use Rattle.nl_iface.specs.Device.{IsVolumeShape}
+use Rattle.nl_nand.specs.Nand.{IsBlank}
+use Rattle.nl_nand.specs.declared.geometry.Geometry.{Geometry}
+use Rattle.nl_pagemap.specs.Mapped.{Mapped, live_among, page_live, page_of}
+use Rattle.nl_pagemap.specs.Stands.{IsMapped}
+use Rattle.nl_pagemap_names.specs.Table.{Table, entry_at, live_at}
+use Rattle.nl_pagemap_names.specs.declared.table.Entry.{Entry}
+use Rattle.nl_vseg.specs.Places.{place_of, stamp_for, stamp_in_place}
+use Rattle.nl_vseg.specs.Segment.{Segment, is_taken_as_erased}
+use Rattle.nl_vseg.specs.declared.place.Place.{Place}
+
+pub all_none : {X : Type 0} (xs : List (Option X)) (n : ℕ) → xs ≡ replicate n None → (p : ℕ) → get_or xs p None ≡ None
+all_none {X} xs n is p = ap (λ (ys : List (Option X)). get_or ys p None) is
+    ∙ ⊎_elim (λ low. get_or-replicate n p None None low) (λ past. get_or_past (replicate n None) p None (let count = length-replicate {A = Option X} n None in omega (arith, past, count))) (cases_lt p n)
+
+-- the virtual segment, the pages that can be written, and the block that is kept fill the medium
+pub fits : (h : Shape) → ShapeBounds h → h.vblocks * h.pages + (h.blocks * h.pages - h.pages - h.vblocks * h.pages) + h.pages ≡ h.blocks * h.pages
+fits h b =
+    let all : (h.vblocks + h.pblocks) * h.pages ≡ h.blocks * h.pages = ap (λ n. n * h.pages) b.segments in
+    let parts : (h.vblocks + h.pblocks) * h.pages ≡ h.vblocks * h.pages + h.pblocks * h.pages = omega arith in
+    let fill = b.data_pages in
+    omega (arith, all, parts, fill)
+
+-- no number of a range passes
+none_pass : (P : ℕ → Bool) (a n : ℕ) → ((k : ℕ) → P k ≡ false) → count_by P (range_with_len a n) ≡ 0
+none_pass P a zero none = refl
+none_pass P a (suc n) none =
+    let x : count_by P (range_with_len a (suc n)) ≡ cond (P a) 1 0 + count_by P (range_with_len (a + 1) n) = sum_by-cons (λ q. cond (P q) 1 0) a (range_with_len (a + 1) n) in
+    let here : cond (P a) 1 0 ≡ 0 = ap (λ b. cond b 1 0) (none a) in
+    let rest = none_pass P (a + 1) n none in
+    omega (arith, x, here, rest)
+
+abbrev pub fresh_table : ℕ → ℕ → ℕ → Table
+fresh_table first last count = record { first = first; last = last; entries = replicate count None; used = replicate count false }
+
+pub no_entry : (first last count n : ℕ) → entry_at (fresh_table first last count) n ≡ None
+no_entry first last count n = all_none (replicate count None) count refl n
+
+pub none_live : (first last count n : ℕ) → page_live (fresh_table first last count) n ≡ None
+none_live first last count n = ap (λ (o : Option Entry). option_map page_of o)
+    (ap (λ o. cond (get_or (replicate count false) n false) o None) (no_entry first last count n) ∙ by (get_or (replicate count false) n false))
+  where
+    by : (b : Bool) → cond b None None ≡ None {A = Entry}
+    by true = refl
+    by false = refl
+
+module _ {tells : Type 0} {geometry : Geometry} (shape : Shape) (seg : Segment) (image : Image) (volume : IsVolumeShape shape) (bounds : ShapeBounds shape) (numbers : geometry ≡ record { blocks = shape.blocks; pages = shape.pages }) (blank : tells → IsBlank image)
+    (places : seg.places ≡ replicate shape.vaddrs None) (pages : seg.pages ≡ shape.pages) (bound : seg.bound ≡ shape.vblocks * shape.pages) (inside : (p : ℕ) → is_taken_as_erased seg p ≡ true → p < seg.bound) where
+  abbrev pub all : ℕ
+  all = shape.blocks * shape.pages
+
+  abbrev pub begins : ℕ
+  begins = shape.vblocks * shape.pages
+
+  abbrev pub table : Table
+  table = fresh_table begins (all - shape.pages) all
+
+  abbrev pub fresh : Mapped
+  fresh = record {
+    shape = shape;
+    vseg = seg;
+    table = table;
+    head = begins;
+    room = all - shape.pages - begins;
+    free = 1 + (all - shape.pages - begins) / shape.pages;
+    count = 0;
+    next = 1;
+    image = image;
+  }
+
+  pub no_place : (v : ℕ) → place_of seg.places v ≡ None
+  no_place v = all_none seg.places shape.vaddrs places v
+
+  pub no_stamp : (v : ℕ) → stamp_for seg.places v ≡ None
+  no_stamp v = ap stamp_in_place (no_place v)
+
+  none_used : live_among shape table ≡ 0
+  none_used = none_pass (λ n. is_some (page_live table n)) (first_physical shape) (shape.pblocks * shape.pages) (λ k. ap is_some (none_live begins (all - shape.pages) all k))
+
+  pub fresh_room : all - shape.pages - begins + shape.pages ≡ shape.pblocks * shape.pages
+  fresh_room =
+      let whole : (shape.vblocks + shape.pblocks) * shape.pages ≡ shape.blocks * shape.pages = ap (λ n. n * shape.pages) bounds.segments in
+      let halves : (shape.vblocks + shape.pblocks) * shape.pages ≡ shape.vblocks * shape.pages + shape.pblocks * shape.pages = omega arith in
+      let fill = bounds.data_pages in
+      omega (arith, whole, halves, fill)
+
+  pub fresh_mapped : IsMapped tells geometry fresh
+  fresh_mapped =
+      let count = none_used in
+      record {
+        volume = volume;
+        bounds = bounds;
+        blocks = ap (λ (g : Geometry). g.blocks) numbers;
+        pages = ap (λ (g : Geometry). g.pages) numbers;
+        virtual = record {
+          pages = pages;
+          bound = bound;
+          addresses = ap (λ (ps : List (Option Place)). length ps) places ∙ length-replicate shape.vaddrs None;
+          below = λ v place is. absurd (none-some place (sym (no_place v) ∙ is));
+          within = inside;
+        };
+        numbers = record {
+          table = record { same = length-replicate all false ∙ sym (length-replicate {A = Option Entry} all None) };
+          count = length-replicate {A = Option Entry} all None;
+          first = refl;
+          last = let fill = fits shape bounds in omega (arith, fill);
+        };
+        entries = λ n e is. absurd (none-some e (sym (no_entry begins (all - shape.pages) all n) ∙ is));
+        differ = λ n m d e is other same. absurd (none-some d (sym (no_entry begins (all - shape.pages) all n) ∙ is));
+        from = omega arith;
+        room = fits shape bounds;
+        free = refl;
+        count = sym count;
+        few = omega arith;
+        some = omega arith;
+        most = omega arith;
+        addresses = λ v t is. absurd (none-some t (sym (no_stamp v) ∙ is));
+        medium = λ told. record {
+          virtual_is = record { holds = λ v place is. absurd (none-some place (sym (no_place v) ∙ is)); erased_is = λ p taken. blank told p };
+          holds = λ n e is. absurd (none-some e (sym (no_entry begins (all - shape.pages) all n) ∙ is));
+          blank = λ p from. blank told p;
+        };
+      }

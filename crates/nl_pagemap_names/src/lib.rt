@@ -1,0 +1,6 @@
+//! Numbers under which pages are kept: which of them are in use, and on which page of the medium each one's page is.
+#![tactic(auto)]
+
+mod table;
+
+pub use table::{Entry, Numbers};
