@@ -47,55 +47,47 @@ fresh_table first last count = record { first = first; last = last; entries = re
 pub no_entry : (first last count n : ℕ) → entry_at (fresh_table first last count) n ≡ None
 no_entry first last count n = all_none (replicate count None) count refl n
 
+empty : (o : Option Entry) (b : Bool) → o ≡ None → cond b o None ≡ None
+empty o true is = is
+empty o false is = refl
+
 pub none_live : (first last count n : ℕ) → page_live (fresh_table first last count) n ≡ None
-none_live first last count n = ap (λ (o : Option Entry). option_map page_of o)
-    (ap (λ o. cond (get_or (replicate count false) n false) o None) (no_entry first last count n) ∙ by (get_or (replicate count false) n false))
-  where
-    by : (b : Bool) → cond b None None ≡ None {A = Entry}
-    by true = refl
-    by false = refl
+none_live first last count n =
+    ap (λ (o : Option Entry). option_map page_of o) (empty (entry_at (fresh_table first last count) n) (get_or (replicate count false) n false) (no_entry first last count n))
+
+-- the device as it is made
+abbrev pub fresh : Shape → Segment → Image → Mapped
+fresh shape seg image = record {
+  shape = shape;
+  vseg = seg;
+  table = fresh_table (shape.vblocks * shape.pages) (shape.blocks * shape.pages - shape.pages) (shape.blocks * shape.pages);
+  head = shape.vblocks * shape.pages;
+  room = shape.blocks * shape.pages - shape.pages - shape.vblocks * shape.pages;
+  free = 1 + (shape.blocks * shape.pages - shape.pages - shape.vblocks * shape.pages) / shape.pages;
+  count = 0;
+  next = 1;
+  image = image;
+}
 
 module _ {tells : Type 0} {geometry : Geometry} (shape : Shape) (seg : Segment) (image : Image) (volume : IsVolumeShape shape) (bounds : ShapeBounds shape) (numbers : geometry ≡ record { blocks = shape.blocks; pages = shape.pages }) (blank : tells → IsBlank image)
     (places : seg.places ≡ replicate shape.vaddrs None) (pages : seg.pages ≡ shape.pages) (bound : seg.bound ≡ shape.vblocks * shape.pages) (inside : (p : ℕ) → is_taken_as_erased seg p ≡ true → p < seg.bound) where
-  abbrev pub all : ℕ
-  all = shape.blocks * shape.pages
-
-  abbrev pub begins : ℕ
-  begins = shape.vblocks * shape.pages
-
-  abbrev pub table : Table
-  table = fresh_table begins (all - shape.pages) all
-
-  abbrev pub fresh : Mapped
-  fresh = record {
-    shape = shape;
-    vseg = seg;
-    table = table;
-    head = begins;
-    room = all - shape.pages - begins;
-    free = 1 + (all - shape.pages - begins) / shape.pages;
-    count = 0;
-    next = 1;
-    image = image;
-  }
-
   pub no_place : (v : ℕ) → place_of seg.places v ≡ None
   no_place v = all_none seg.places shape.vaddrs places v
 
   pub no_stamp : (v : ℕ) → stamp_for seg.places v ≡ None
   no_stamp v = ap stamp_in_place (no_place v)
 
-  none_used : live_among shape table ≡ 0
-  none_used = none_pass (λ n. is_some (page_live table n)) (first_physical shape) (shape.pblocks * shape.pages) (λ k. ap is_some (none_live begins (all - shape.pages) all k))
+  none_used : live_among shape (fresh shape seg image).table ≡ 0
+  none_used = none_pass (λ n. is_some (page_live (fresh shape seg image).table n)) (first_physical shape) (shape.pblocks * shape.pages) (λ k. ap is_some (none_live (shape.vblocks * shape.pages) (shape.blocks * shape.pages - shape.pages) (shape.blocks * shape.pages) k))
 
-  pub fresh_room : all - shape.pages - begins + shape.pages ≡ shape.pblocks * shape.pages
+  pub fresh_room : shape.blocks * shape.pages - shape.pages - shape.vblocks * shape.pages + shape.pages ≡ shape.pblocks * shape.pages
   fresh_room =
       let whole : (shape.vblocks + shape.pblocks) * shape.pages ≡ shape.blocks * shape.pages = ap (λ n. n * shape.pages) bounds.segments in
       let halves : (shape.vblocks + shape.pblocks) * shape.pages ≡ shape.vblocks * shape.pages + shape.pblocks * shape.pages = omega arith in
       let fill = bounds.data_pages in
       omega (arith, whole, halves, fill)
 
-  pub fresh_mapped : IsMapped tells geometry fresh
+  pub fresh_mapped : IsMapped tells geometry (fresh shape seg image)
   fresh_mapped =
       let count = none_used in
       record {
@@ -111,13 +103,13 @@ module _ {tells : Type 0} {geometry : Geometry} (shape : Shape) (seg : Segment) 
           within = inside;
         };
         numbers = record {
-          table = record { same = length-replicate all false ∙ sym (length-replicate {A = Option Entry} all None) };
-          count = length-replicate {A = Option Entry} all None;
+          table = record { same = length-replicate (shape.blocks * shape.pages) false ∙ sym (length-replicate {A = Option Entry} (shape.blocks * shape.pages) None) };
+          count = length-replicate {A = Option Entry} (shape.blocks * shape.pages) None;
           first = refl;
           last = let fill = fits shape bounds in omega (arith, fill);
         };
-        entries = λ n e is. absurd (none-some e (sym (no_entry begins (all - shape.pages) all n) ∙ is));
-        differ = λ n m d e is other same. absurd (none-some d (sym (no_entry begins (all - shape.pages) all n) ∙ is));
+        entries = λ n e is. absurd (none-some e (sym (no_entry (shape.vblocks * shape.pages) (shape.blocks * shape.pages - shape.pages) (shape.blocks * shape.pages) n) ∙ is));
+        differ = λ n m d e is other same. absurd (none-some d (sym (no_entry (shape.vblocks * shape.pages) (shape.blocks * shape.pages - shape.pages) (shape.blocks * shape.pages) n) ∙ is));
         from = omega arith;
         room = fits shape bounds;
         free = refl;
@@ -128,7 +120,7 @@ module _ {tells : Type 0} {geometry : Geometry} (shape : Shape) (seg : Segment) 
         addresses = λ v t is. absurd (none-some t (sym (no_stamp v) ∙ is));
         medium = λ told. record {
           virtual_is = record { holds = λ v place is. absurd (none-some place (sym (no_place v) ∙ is)); erased_is = λ p taken. blank told p };
-          holds = λ n e is. absurd (none-some e (sym (no_entry begins (all - shape.pages) all n) ∙ is));
+          holds = λ n e is. absurd (none-some e (sym (no_entry (shape.vblocks * shape.pages) (shape.blocks * shape.pages - shape.pages) (shape.blocks * shape.pages) n) ∙ is));
           blank = λ p from. blank told p;
         };
       }

@@ -18,8 +18,8 @@ use Rattle.nl_pseg_pages.specs.Pages.{main_of, shown_by}
 use Rattle.nl_vseg.specs.Places.{map_of}
 
 module _ {tells : Type 0} {geometry : Geometry} (s : Mapped) (image : Image) (f : IsMapped tells geometry s) (room : 0 < s.room) (next : s.next < 2 ^ 63) (k : ChangesNext tells s image) where
-  abbrev pub then_ : Mapped
-  then_ = spent image s
+  abbrev pub wasted : Mapped
+  wasted = spent image s
 
   below_same : tells → (p : ℕ) → p < s.head → page_at image p ≡ page_at s.image p
   below_same told p lt = k told p (λ e. omega (arith, e, lt))
@@ -30,7 +30,7 @@ module _ {tells : Type 0} {geometry : Geometry} (s : Mapped) (image : Image) (f 
   entry_page : tells → (q : ℕ) (e : Entry) → entry_at s.table q ≡ Some e → page_at image e.page ≡ page_at s.image e.page
   entry_page told q e is = below_same told e.page (f.entries q e is).page_below
 
-  pub wasted_mapped : IsMapped tells geometry then_
+  pub wasted_mapped : IsMapped tells geometry wasted
   wasted_mapped =
       let fit = f.room in
       let first = f.from in
@@ -61,28 +61,28 @@ module _ {tells : Type 0} {geometry : Geometry} (s : Mapped) (image : Image) (f 
         };
       }
 
-  pub wasted_named : tells → (q : ℕ) → named_at then_ q ≡ named_at s q
+  pub wasted_named : tells → (q : ℕ) → named_at wasted q ≡ named_at s q
   wasted_named told q = named_same s.image image (entry_at s.table q) (entry_page told q)
 
-  pub wasted_bytes : tells → (q : ℕ) → bytes_at then_ q ≡ bytes_at s q
+  pub wasted_bytes : tells → (q : ℕ) → bytes_at wasted q ≡ bytes_at s q
   wasted_bytes told q = bytes_same s.image image (entry_at s.table q) (entry_page told q)
 
   pub wasted_map : tells → (v : ℕ) → map_of s.vseg.places image v ≡ map_of s.vseg.places s.image v
   wasted_map told v = map_same s.vseg.bound s.vseg.places s.image image f.virtual.below (first_same told) v
 
-  holds_still : tells → HoldsLive (λ q. page_live s.table q) (λ q. bytes_at s q) (stored_in then_)
+  holds_still : tells → HoldsLive (λ q. page_live s.table q) (λ q. bytes_at s q) (stored_in wasted)
   holds_still told q page live = wasted_named told q ∙ holds_live f told q page live
 
-  wasted_tried : tells → (new : NamedPage) → LeavesTried s.shape (names_of s) (λ q. bytes_at s q) new (stored_in s) (stored_in then_)
+  wasted_tried : tells → (new : NamedPage) → LeavesTried s.shape (names_of s) (λ q. bytes_at s q) new (stored_in s) (stored_in wasted)
   wasted_tried told new = record {
     same_virtual = record { values = wasted_map told; firm = refl };
     holds = holds_still told;
-    pages = leaves_in f (stored_in then_) (holds_still told);
+    pages = leaves_in f (stored_in wasted) (holds_still told);
     others = λ q. inl (wasted_named told q);
   }
 
   -- what a stop leaves then
-  pub left_without : tells → (new : NamedPage) (c : Stored) → c ≡ stored_in then_ → LeavesTried s.shape (names_of s) (λ q. bytes_at s q) new (stored_in s) c
+  pub left_without : tells → (new : NamedPage) (c : Stored) → c ≡ stored_in wasted → LeavesTried s.shape (names_of s) (λ q. bytes_at s q) new (stored_in s) c
   left_without told new c is =
       subst (λ (x : Stored). LeavesTried s.shape (names_of s) (λ q. bytes_at s q) new (stored_in s) x) (sym is) (wasted_tried told new)
 

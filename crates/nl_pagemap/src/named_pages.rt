@@ -53,18 +53,16 @@ impl<M: Nand> NamedPages for Pagemap<M> {
     }
 
     fn physical_read(&mut self, at: Pointer, tag: Tag, buf: &mut PageBuf) -> NamedRead {
-        match self.table.get(at.name) {
-            Some(entry) if entry.stamp == at.stamp => {
-                if entry.tag != tag {
-                    return NamedRead::Lost {
-                        wanted: at.stamp,
-                        found: 0,
-                    };
-                }
-                read_page(&mut self.media, entry.page, tag, at.stamp, buf)
-            }
-            _ => NamedRead::NotLive,
+        let Some(entry) = self.entry_of(at) else {
+            return NamedRead::NotLive;
+        };
+        if entry.tag != tag {
+            return NamedRead::Lost {
+                wanted: at.stamp,
+                found: 0,
+            };
         }
+        read_page(&mut self.media, entry.page, tag, at.stamp, buf)
     }
 
     fn free(&mut self, at: Pointer) -> bool {

@@ -1,16 +1,18 @@
 // How a page is programmed under a new number, and how a number is taken out of use.
-ghost use Rattle.std.specs.Prelude.{◌≡◌, ◌<◌, ◌≤◌, ◌^◌, Some};
+ghost use Rattle.std.specs.Prelude.{◌≡◌, ◌<◌, ◌≤◌, ◌^◌, IfNone, IfSome, Some, false};
 ghost use Rattle.nl_field.specs.Page.{page_at, written};
 ghost use Rattle.nl_iface.specs.Names.{leads};
 ghost use Rattle.nl_nand.specs.Nand.{OperationCounted};
 ghost use Rattle.nl_pagemap.specs.Mapped.{names_of, seen};
 ghost use Rattle.nl_pagemap.specs.Placing.{ChangesNext, IsNewPointer, spent};
 ghost use Rattle.nl_pagemap.specs.Stands.{IsMapped};
+ghost use Rattle.nl_pagemap_names.specs.Table.{live_at};
 ghost use Rattle.nl_pseg_pages.specs.Pages.{page_with, shown_by};
 
 use crate::pagemap::Pagemap;
 use nl_field::{PageBuf, Pointer, Tag};
 use nl_nand::{Nand, WriteAnswer};
+use nl_pagemap_names::Entry;
 use nl_pseg_pages::program_page;
 
 impl<M: Nand> Pagemap<M> {
@@ -36,6 +38,17 @@ impl<M: Nand> Pagemap<M> {
         match self.table.get(at.name) {
             Some(entry) => entry.stamp == at.stamp,
             None => false,
+        }
+    }
+
+    /// The entry to which the pointer leads.
+    pub(crate) fn entry_of(&self, at: Pointer) -> Option<Entry>
+        ensures some { IfSome result (λ e. (live_at self.now.table at.name ≡ Some e) × (e.stamp ≡ at.stamp)) }
+        ensures none { IfNone result (leads (names_of (seen M.contents self.now)) at ≡ false) }
+    {
+        match self.table.get(at.name) {
+            Some(entry) if entry.stamp == at.stamp => Some(entry),
+            _ => None,
         }
     }
 
