@@ -1,7 +1,6 @@
 -- A number is in use no longer.
-use Rattle.std.proofs.Common.{◌≡◌, ℕ, ◌+◌, ◌-◌, ◌*◌, ◌<◌, ◌≤◌, ◌==◌, Option, Some, None, option_map, length, refl, sym, ◌∙◌, ap, arith, true}
+use Rattle.std.proofs.Common.{◌≡◌, ℕ, ◌+◌, ◌-◌, ◌*◌, ◌<◌, ◌≤◌, ◌==◌, Option, Some, None, option_map, length, refl, sym, ◌∙◌, ap, arith, eqb-true, true}
 use Rattle.std.proofs.lemmas.Option.{none-some}
-use Rattle.std.proofs.Common.{eqb-true, Bool, false}
 use Rattle.std.proofs.lemmas.Bool.{false≢true}
 use Rattle.nl_field.specs.Medium.{first_physical}
 use Rattle.nl_iface.specs.Names.{LivePage, has_stamp, without_page}
@@ -12,7 +11,7 @@ use Rattle.nl_pagemap.specs.Placing.{dropped}
 use Rattle.nl_pagemap.specs.Stands.{IsEntry, IsMapped}
 use Rattle.nl_pagemap.proofs.Numbers.{count_without, in_segment, live_without, numbers_without, within}
 use Rattle.nl_pagemap_names.specs.Table.{entry_at, live_at}
-use Rattle.nl_pagemap_names.specs.declared.table.Entry.{Entry}
+use Rattle.nl_pagemap_names.specs.declared.entry.Entry.{Entry}
 
 -- a number under which a page of this stamp is live has an entry of this stamp
 pub led_entry : (o : Option Entry) (stamp : ℕ) → has_stamp (option_map page_of o) stamp ≡ true → (e : Entry) × (o ≡ Some e) × (e.stamp ≡ stamp)

@@ -19,7 +19,7 @@ use Rattle.nl_iface.specs.Names.{has_stamp}
 use Rattle.nl_iface.specs.Stored.{NamedPage}
 use Rattle.nl_nand.specs.Nand.{FaultsCounted}
 use Rattle.nl_pagemap.specs.Mapped.{named_by, named_on, page_of}
-use Rattle.nl_pagemap_names.specs.declared.table.Entry.{Entry}
+use Rattle.nl_pagemap_names.specs.declared.entry.Entry.{Entry}
 use Rattle.nl_pseg_pages.specs.Pages.{TellsFound, main_of, shown_by, stamp_found, stamp_in as named_stamp}
 use Rattle.nl_vseg.specs.Answers.{TellsStampFound}
 use Rattle.nl_vseg.specs.Pages.{stamp_in as virtual_stamp}

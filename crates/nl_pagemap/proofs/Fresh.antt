@@ -15,7 +15,7 @@ use Rattle.nl_nand.specs.declared.geometry.Geometry.{Geometry}
 use Rattle.nl_pagemap.specs.Mapped.{Mapped, live_among, page_live, page_of}
 use Rattle.nl_pagemap.specs.Stands.{IsMapped}
 use Rattle.nl_pagemap_names.specs.Table.{Table, entry_at, live_at}
-use Rattle.nl_pagemap_names.specs.declared.table.Entry.{Entry}
+use Rattle.nl_pagemap_names.specs.declared.entry.Entry.{Entry}
 use Rattle.nl_vseg.specs.Places.{place_of, stamp_for, stamp_in_place}
 use Rattle.nl_vseg.specs.Segment.{Segment, is_taken_as_erased}
 use Rattle.nl_vseg.specs.declared.place.Place.{Place}

@@ -3,7 +3,7 @@ use Rattle.std.proofs.Common.{◌≡◌, ℕ, ◌+◌, ◌*◌, ◌<◌, ◌≤�
 use Rattle.nl_field.specs.Page.{Image, Page, page_at}
 use Rattle.nl_nand.specs.Nand.{CanProgram}
 use Rattle.nl_pagemap.specs.Mapped.{bytes_by, named_by, named_on}
-use Rattle.nl_pagemap_names.specs.declared.table.Entry.{Entry}
+use Rattle.nl_pagemap_names.specs.declared.entry.Entry.{Entry}
 use Rattle.nl_pseg_pages.specs.Pages.{main_of, shown_by}
 use Rattle.nl_vseg.specs.Pages.{fact_of, main_of as value_of}
 use Rattle.nl_vseg.specs.Places.{AreBelow, map_of, place_of, value_at}

@@ -12,7 +12,7 @@ use Rattle.nl_pagemap.specs.Placing.{IsNewPointer}
 use Rattle.nl_pagemap.specs.Stands.{HasNumbers, IsMapped}
 use Rattle.nl_pagemap.proofs.Counted.{many, one_more}
 use Rattle.nl_pagemap_names.specs.Table.{IsTable, Table, entry_at, given, live_at, released}
-use Rattle.nl_pagemap_names.specs.declared.table.Entry.{Entry}
+use Rattle.nl_pagemap_names.specs.declared.entry.Entry.{Entry}
 use Rattle.nl_pagemap_names.proofs.Changed.{given_live, released_live}
 
 is_live : (o : Option Entry) → (o ≡ None → ⊥) → is_some (option_map page_of o) ≡ true

@@ -14,7 +14,7 @@ use Rattle.nl_pagemap.proofs.Dropped.{count_dropped, dropped_mapped, live_droppe
 use Rattle.nl_pagemap.proofs.Numbers.{within}
 use Rattle.nl_pagemap.proofs.Placed.{count_now, live_now, placed_mapped}
 use Rattle.nl_pagemap_names.specs.Table.{live_at}
-use Rattle.nl_pagemap_names.specs.declared.table.Entry.{Entry}
+use Rattle.nl_pagemap_names.specs.declared.entry.Entry.{Entry}
 use Rattle.nl_pagemap_names.proofs.Changed.{given_live}
 
 module _ {tells : Type 0} {geometry : Geometry} (at : Pointer) (tag : Tag) (main : List ℕ) (s : Mapped) (image : Image) (f : IsMapped tells geometry s) (room : 0 < s.room) (next : s.next < 2 ^ 63)
@@ -44,14 +44,14 @@ module _ {tells : Type 0} {geometry : Geometry} (at : Pointer) (tag : Tag) (main
   -- the live pages: without the one that is gone, and with the new one
   pub live_over : (q : ℕ) → page_live over.table q ≡ with_page (λ r. without_page (λ m. page_live s.table m) gone r) at.name (page_of (next_entry tag s)) q
   live_over q = live_dropped mid mid_mapped gone e live_mid q ∙ by (cases_eq q gone)
-  where
-    by : (q ≡ gone) ⊎ (q ≡ gone → ⊥) → without_page (λ r. page_live mid.table r) gone q ≡ with_page (λ r. without_page (λ m. page_live s.table m) gone r) at.name (page_of (next_entry tag s)) q
-    by (inl here) =
-        let off : q ≡ at.name → ⊥ = λ same. other (sym here ∙ same) in
-        cond-true (q == gone) None (page_live mid.table q) (eq-eqb q gone here)
-        ∙ sym (cond-false (q == at.name) (Some (page_of (next_entry tag s))) (without_page (λ m. page_live s.table m) gone q) (ne_eqb q at.name off)
-        ∙ cond-true (q == gone) None (page_live s.table q) (eq-eqb q gone here))
-    by (inr away) =
-        cond-false (q == gone) None (page_live mid.table q) (ne_eqb q gone away)
-        ∙ (live_now at tag main s image f room next n k q
-        ∙ sym (ap (λ (o : Option LivePage). cond (q == at.name) (Some (page_of (next_entry tag s))) o) (cond-false (q == gone) None (page_live s.table q) (ne_eqb q gone away))))
+    where
+      by : (q ≡ gone) ⊎ (q ≡ gone → ⊥) → without_page (λ r. page_live mid.table r) gone q ≡ with_page (λ r. without_page (λ m. page_live s.table m) gone r) at.name (page_of (next_entry tag s)) q
+      by (inl here) =
+          let off : q ≡ at.name → ⊥ = λ same. other (sym here ∙ same) in
+          cond-true (q == gone) None (page_live mid.table q) (eq-eqb q gone here)
+          ∙ sym (cond-false (q == at.name) (Some (page_of (next_entry tag s))) (without_page (λ m. page_live s.table m) gone q) (ne_eqb q at.name off)
+          ∙ cond-true (q == gone) None (page_live s.table q) (eq-eqb q gone here))
+      by (inr away) =
+          cond-false (q == gone) None (page_live mid.table q) (ne_eqb q gone away)
+          ∙ (live_now at tag main s image f room next n k q
+          ∙ sym (ap (λ (o : Option LivePage). cond (q == at.name) (Some (page_of (next_entry tag s))) o) (cond-false (q == gone) None (page_live s.table q) (ne_eqb q gone away))))

@@ -18,7 +18,7 @@ use Rattle.nl_pagemap.specs.Stands.{IsEntry, IsMapped}
 use Rattle.nl_pagemap.proofs.Images.{bytes_same, map_same, named_same, segment_same}
 use Rattle.nl_pagemap.proofs.Numbers.{count_with, in_segment, live_with, numbers_with, within}
 use Rattle.nl_pagemap_names.specs.Table.{entry_at}
-use Rattle.nl_pagemap_names.specs.declared.table.Entry.{Entry}
+use Rattle.nl_pagemap_names.specs.declared.entry.Entry.{Entry}
 use Rattle.nl_pagemap_names.proofs.Changed.{given_entry}
 use Rattle.nl_pseg_pages.specs.Pages.{main_of, page_with, shown_by}
 use Rattle.nl_vseg.specs.Places.{map_of}

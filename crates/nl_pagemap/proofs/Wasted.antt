@@ -13,7 +13,7 @@ use Rattle.nl_pagemap.specs.Stands.{IsMapped}
 use Rattle.nl_pagemap.proofs.Images.{bytes_same, map_same, named_same, segment_same}
 use Rattle.nl_pagemap.proofs.Placed.{entry_later}
 use Rattle.nl_pagemap_names.specs.Table.{entry_at}
-use Rattle.nl_pagemap_names.specs.declared.table.Entry.{Entry}
+use Rattle.nl_pagemap_names.specs.declared.entry.Entry.{Entry}
 use Rattle.nl_pseg_pages.specs.Pages.{main_of, shown_by}
 use Rattle.nl_vseg.specs.Places.{map_of}
 

@@ -17,7 +17,7 @@ use Rattle.nl_pagemap.specs.Mapped.{Mapped, bytes_at, named_at, stored_in}
 use Rattle.nl_pagemap.specs.Stands.{HasAddresses, IsMapped}
 use Rattle.nl_pagemap.proofs.Images.{bytes_same, named_same}
 use Rattle.nl_pagemap_names.specs.Table.{entry_at}
-use Rattle.nl_pagemap_names.specs.declared.table.Entry.{Entry}
+use Rattle.nl_pagemap_names.specs.declared.entry.Entry.{Entry}
 use Rattle.nl_pseg_pages.specs.Pages.{main_of, shown_by}
 use Rattle.nl_vseg.specs.Cleaning.{LosesUntold}
 use Rattle.nl_vseg.specs.Effects.{GainsValue, ImageKeepsMap}

@@ -17,7 +17,7 @@ use Rattle.nl_nand.specs.declared.geometry.Geometry.{Geometry}
 use Rattle.nl_pagemap.specs.Mapped.{Mapped, bytes_at, bytes_by, last_block, named_at, named_by, named_on, names_of, page_live, page_of, space_of, stored_in}
 use Rattle.nl_pagemap.specs.Stands.{IsEntry, IsMapped}
 use Rattle.nl_pagemap_names.specs.Table.{entry_at, entry_in, live_at, live_in}
-use Rattle.nl_pagemap_names.specs.declared.table.Entry.{Entry}
+use Rattle.nl_pagemap_names.specs.declared.entry.Entry.{Entry}
 use Rattle.nl_pseg_pages.specs.Pages.{main_of, shown_by}
 use Rattle.nl_vseg.specs.Places.{map_of, place_of, stamp_for, stamp_in_place, value_at}
 use Rattle.nl_vseg.specs.declared.place.Place.{Place}

@@ -9,7 +9,7 @@ use Rattle.nl_iface.specs.Space.{Space}
 use Rattle.nl_iface.specs.Stored.{NamedPage, Stored}
 use Rattle.nl_pagemap.specs.declared.pagemap.Pagemap.{Pagemap}
 use Rattle.nl_pagemap_names.specs.Table.{Table, entry_at, live_at}
-use Rattle.nl_pagemap_names.specs.declared.table.Entry.{Entry}
+use Rattle.nl_pagemap_names.specs.declared.entry.Entry.{Entry}
 use Rattle.nl_pseg_pages.specs.Pages.{Shown, main_of, shown_by}
 use Rattle.nl_vseg.specs.Places.{map_of}
 use Rattle.nl_vseg.specs.Segment.{Segment}

@@ -6,7 +6,7 @@ use Rattle.nl_field.specs.declared.pointer.Pointer.{Pointer}
 use Rattle.nl_field.specs.declared.pointer.Tag.{Tag}
 use Rattle.nl_pagemap.specs.Mapped.{Mapped}
 use Rattle.nl_pagemap_names.specs.Table.{given, live_at, released}
-use Rattle.nl_pagemap_names.specs.declared.table.Entry.{Entry}
+use Rattle.nl_pagemap_names.specs.declared.entry.Entry.{Entry}
 use Rattle.nl_pseg_pages.specs.Pages.{page_with, shown_by}
 
 -- The pointer has a number that is not in use, and the next stamp.

@@ -4,7 +4,7 @@ use Rattle.std.proofs.lemmas.Bool.{cases_eq, cond-false, cond-true}
 use Rattle.std.proofs.lemmas.List.{get_or-set_same, get_or-set_other}
 use Rattle.std.proofs.lemmas.Option.{none-some, same_Some}
 use Rattle.nl_pagemap_names.specs.Table.{IsTable, Table, entry_at, entry_in, given, live_at, live_in, released}
-use Rattle.nl_pagemap_names.specs.declared.table.Entry.{Entry}
+use Rattle.nl_pagemap_names.specs.declared.entry.Entry.{Entry}
 
 -- an entry that is in use is what the number was last given
 pub live_entry : (entries : List (Option Entry)) (used : List Bool) (n : ℕ) (e : Entry) → live_in entries used n ≡ Some e → entry_in entries n ≡ Some e

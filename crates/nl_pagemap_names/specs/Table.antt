@@ -1,6 +1,6 @@
 -- What a table of numbers has: which numbers are in use, and the page of each.
 use Rattle.std.specs.Prelude.{◌≡◌, ℕ, ◌<◌, ◌≤◌, Bool, true, false, cond, List, length, set, slice_index_or, Option, Some, None}
-use Rattle.nl_pagemap_names.specs.declared.table.Entry.{Entry}
+use Rattle.nl_pagemap_names.specs.declared.entry.Entry.{Entry}
 
 -- The first number that is given out, and the one behind the last; by number what it was last given, and whether it is in use.
 pub record Table : Type 0 where

@@ -1,18 +1,11 @@
 // The table of numbers: what each was last given, and which are in use.
-ghost use Rattle.std.specs.Prelude.{◌≡◌, ℕ, ◌<◌, ◌≤◌, length, replicate, slice_index_or, false, IfNone, IfOk, IfSome, None};
+ghost use Rattle.std.specs.Prelude.{◌≡◌, ℕ, ◌<◌, ◌≤◌, length, replicate, slice_index_or, false, true, IfNone, IfOk, IfSome, None};
 ghost use Rattle.nl_pagemap_names.specs.Table.{IsFirstFree, entry_at, given, live_at, released};
 
-use nl_field::{Memory, Tag};
+use crate::entry::Entry;
+use nl_field::Memory;
 use std::alloc::Global;
 use std::marker::Model;
-
-/// Where the page of a number is: its page of the medium, and the owner and the write sequence number that it was written with.
-#[derive(Clone, Copy, Debug, PartialEq, Eq)]
-pub struct Entry {
-    pub page: u32,
-    pub tag: Tag,
-    pub stamp: u64,
-}
 
 /// What each number was last given, and which numbers are in use. New numbers come from a range. A number that is released keeps its
 /// entry until it is given another one.

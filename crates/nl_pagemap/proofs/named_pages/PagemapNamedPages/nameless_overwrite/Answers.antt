@@ -14,7 +14,7 @@ use Rattle.nl_pagemap.proofs.Over.{count_over, live_over, over_mapped}
 use Rattle.nl_pagemap.proofs.Placed.{bytes_here, bytes_kept, count_now, is_new, left_with, live_now, map_now, named_other, placed_mapped, stays, wrote}
 use Rattle.nl_pagemap.proofs.Wasted.{fails, left_without, wasted_bytes, wasted_map, wasted_mapped}
 use Rattle.nl_pagemap_names.specs.Table.{Table, given, live_at, released}
-use Rattle.nl_pagemap_names.specs.declared.table.Entry.{Entry}
+use Rattle.nl_pagemap_names.specs.declared.entry.Entry.{Entry}
 use Rattle.nl_vseg.specs.Places.{map_of, stamp_for}
 use Rattle.nl_vseg.specs.Segment.{SegmentHasUnmapped}
 use Rattle.nl_pagemap.proofs.named_pages.PagemapNamedPages.nameless_overwrite.Goals as goal

@@ -11,7 +11,7 @@ use Rattle.nl_pagemap.specs.Stands.{IsMapped}
 use Rattle.nl_pagemap.proofs.Found.{finds_either, finds_page, led_not, loses, not_lost, read_counted, under_other}
 use Rattle.nl_pagemap.proofs.Programmed.{spelled}
 use Rattle.nl_pagemap_names.specs.Table.{entry_at, live_at}
-use Rattle.nl_pagemap_names.specs.declared.table.Entry.{Entry}
+use Rattle.nl_pagemap_names.specs.declared.entry.Entry.{Entry}
 use Rattle.nl_pseg_pages.specs.Pages.{main_of, shown_by}
 use Rattle.nl_vseg.specs.Places.{map_of}
 use Rattle.nl_pagemap.proofs.named_pages.PagemapNamedPages.physical_read.Goals as goal
