@@ -14,11 +14,13 @@ pub once_in_all : (before now refused : ℕ) → now ≡ saturated (before + 1) 
 once_in_all before now refused is = omega (arith, is)
 
 -- one refusal more
-pub refused_once : (failed refused : ℕ) → saturated (failed + saturated (refused + 1)) ≡ saturated (saturated (failed + refused) + 1)
-refused_once failed refused = omega arith
-
-pub refused_rose : (failed refused : ℕ) → Rose (saturated (failed + refused)) (saturated (failed + saturated (refused + 1)))
-refused_rose failed refused = omega arith
+pub refused_faults : (exact failed : Type 0) (media refused now : ℕ) → now ≡ saturated (refused + 1) → failed → FailuresCounted exact (saturated (media + refused)) (saturated (media + now)) failed
+refused_faults exact failed media refused now is did = record {
+  never_falls = omega (arith, is);
+  cause = λ f. omega (arith, is);
+  once = λ e f. omega (arith, is);
+  stays = λ e no. absurd (no did);
+}
 
 pub earlier : (before : ℕ) {now : ℕ} → now ≡ saturated (before + 1) → Earlier before now
 earlier before is below = omega (arith, is, below)

@@ -1,7 +1,7 @@
 -- What stands in the table after one number was given an entry, or released.
 use Rattle.std.proofs.Common.{◌≡◌, ◌⊎◌, inl, inr, ℕ, ◌<◌, ◌==◌, if◌then◌else◌, Bool, true, false, cond, List, Option, Some, None, length, sym, ◌∙◌, ap, subst, eq-eqb, ne_eqb, get_or, set}
 use Rattle.std.proofs.lemmas.Bool.{cases_eq, cond-false, cond-true}
-use Rattle.std.proofs.lemmas.List.{get_or-set_same, get_or-set_other}
+use Rattle.std.proofs.lemmas.List.{get_or-set_same, get_or-set_other, length-set}
 use Rattle.std.proofs.lemmas.Option.{none-some, same_Some}
 use Rattle.nl_pagemap_names.specs.Table.{IsTable, Table, entry_at, entry_in, given, live_at, live_in, released}
 use Rattle.nl_pagemap_names.specs.declared.entry.Entry.{Entry}
@@ -43,3 +43,10 @@ module _ (t : Table) (f : IsTable t) (n : ℕ) (within : n < length t.entries) w
     | inr ne ↦ ap (λ b. cond b (entry_in t.entries q) None) (get_or-set_other t.used n q false false ne)
         ∙ sym (cond-false (q == n) None (live_at t q) (ne_eqb q n ne))
   ]
+
+  -- the table is one still
+  pub given_table : (e : Entry) → IsTable (given n e t)
+  given_table e = record { same = length-set t.used n true ∙ (f.same ∙ sym (length-set t.entries n (Some e))) }
+
+  pub released_table : IsTable (released n t)
+  released_table = record { same = length-set t.used n false ∙ f.same }

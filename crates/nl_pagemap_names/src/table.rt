@@ -61,7 +61,14 @@ impl Numbers {
         ensures some { IfSome result (IsFirstFree self.now) }
         ensures none { IfNone result ((n : ℕ) → self.now.first ≤ n → n < self.now.last → live_at self.now n ≡ None → ⊥) }
     {
-        first_free_in(self, self.first, self.last)
+        let first = self.first();
+        let last = self.last();
+        for number in first..last {
+            if self.is_free(number) {
+                return Some(number);
+            }
+        }
+        None
     }
 
     /// The number is in use, with this entry.
@@ -79,6 +86,18 @@ impl Numbers {
         ensures { self.new ≡ released number self.old }
     {
         self.used[number as usize] = false;
+    }
+
+    fn first(&self) -> u32
+        ensures { result ≡ self.now.first }
+    {
+        self.first
+    }
+
+    fn last(&self) -> u32
+        ensures { result ≡ self.now.last }
+    {
+        self.last
     }
 
     /// What the number was last given.
@@ -110,20 +129,6 @@ impl Numbers {
             None => true,
         }
     }
-}
-
-/// The least number from `first` on and below `last` that has no entry in use.
-fn first_free_in(numbers: &Numbers, first: u32, last: u32) -> Option<u32>
-    ensures some { IfSome result (λ n. (first ≤ n) × (n < last) × (live_at numbers.now n ≡ None)) }
-    ensures least { IfSome result (λ n. (m : ℕ) → first ≤ m → m < n → live_at numbers.now m ≡ None → ⊥) }
-    ensures none { IfNone result ((n : ℕ) → first ≤ n → n < last → live_at numbers.now n ≡ None → ⊥) }
-{
-    for number in first..last {
-        if numbers.is_free(number) {
-            return Some(number);
-        }
-    }
-    None
 }
 
 fn no_entries(alloc: Global, count: u32) -> Result<Vec<Option<Entry>>, Memory>
