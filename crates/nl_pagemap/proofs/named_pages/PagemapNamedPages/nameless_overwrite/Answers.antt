@@ -1,4 +1,4 @@
-use Rattle.std.proofs.Common.{◌≡◌, ℕ, ◌+◌, ◌-◌, ◌<◌, ◌≤◌, inl, inr, refl, sym, ◌∙◌, ap, subst, arith, Option}
+use Rattle.std.proofs.Common.{◌≡◌, ℕ, ◌+◌, ◌-◌, ◌<◌, ◌≤◌, length, set, Some, inl, inr, refl, sym, ◌∙◌, ap, subst, arith, Option}
 use Rattle.nl_field.specs.CrashStates.{saturated}
 use Rattle.nl_iface.specs.Names.{LivePage}
 use Rattle.nl_nand.specs.Nand.{ticked}
@@ -9,7 +9,9 @@ use Rattle.nl_pagemap.specs.Placing.{IsProgrammed, dropped, next_entry, placed, 
 use Rattle.nl_pagemap.specs.Stands.{IsMapped}
 use Rattle.nl_pagemap.proofs.Counts.{done_faults, done_stamp, earlier, failed_faults, failed_stamp}
 use Rattle.nl_pagemap.proofs.Programmed.{not_both}
-use Rattle.nl_pagemap.proofs.Dropped.{led_entry}
+use Rattle.std.proofs.lemmas.List.{length-set}
+use Rattle.nl_pagemap.proofs.Dropped.{dropped_within, led_entry}
+use Rattle.nl_pagemap.proofs.Numbers.{within}
 use Rattle.nl_pagemap.proofs.Over.{count_over, live_over, over_mapped}
 use Rattle.nl_pagemap.proofs.Placed.{bytes_here, bytes_kept, count_now, is_new, left_with, live_now, map_now, named_other, placed_mapped, stays, wrote}
 use Rattle.nl_pagemap.proofs.Wasted.{fails, left_without, wasted_bytes, wasted_map, wasted_mapped}
@@ -18,6 +20,22 @@ use Rattle.nl_pagemap_names.specs.declared.entry.Entry.{Entry}
 use Rattle.nl_vseg.specs.Places.{map_of, stamp_for}
 use Rattle.nl_vseg.specs.Segment.{SegmentHasUnmapped}
 use Rattle.nl_pagemap.proofs.named_pages.PagemapNamedPages.nameless_overwrite.Goals as goal
+
+pub give-requires : goal.give-requires
+give-requires g c =
+    subst (λ (x : Mapped). c.new_pointer-at.result.name < length x.table.entries) (sym c.program.ensures.spends)
+    (within c.requires.formed c.new_pointer-at.result.name c.new_pointer-at.ensures.below)
+
+pub release-requires : goal.release-requires
+release-requires g c =
+    let d = c.args.self.now in
+    let e = c.program.ensures in
+    let at = c.new_pointer-at.result in
+    let was = led_entry (live_at d.table c.args.old.name) c.args.old.stamp (sym c.leads.ensures ∙ c.if-not-leads.false) in
+    let entry : Entry = record { page = d.head; tag = c.args.tag; stamp = at.stamp } in
+    subst (λ (x : Table). c.args.old.name < length x.entries) (sym (c.give.ensures ∙ (λ i. given at.name entry (e.spends i).table)))
+    (subst (λ k. c.args.old.name < k) (sym (length-set d.table.entries at.name (Some entry)))
+    (dropped_within (seen g.M.Nand.contents d) c.requires.formed c.args.old.name was.0 was.1))
 
 pub returns-then-self-eq0-clause-left : goal.returns-then-self-eq0-clause-left
 returns-then-self-eq0-clause-left g c told = record {

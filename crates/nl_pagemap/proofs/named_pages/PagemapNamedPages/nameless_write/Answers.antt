@@ -1,4 +1,4 @@
-use Rattle.std.proofs.Common.{◌≡◌, ℕ, ◌+◌, ◌-◌, ◌<◌, ◌≤◌, inl, inr, refl, sym, ◌∙◌, ap, subst, arith, Option}
+use Rattle.std.proofs.Common.{◌≡◌, ℕ, ◌+◌, ◌-◌, ◌<◌, ◌≤◌, length, inl, inr, refl, sym, ◌∙◌, ap, subst, arith, Option}
 use Rattle.nl_field.specs.CrashStates.{saturated}
 use Rattle.nl_iface.specs.Names.{LivePage}
 use Rattle.nl_nand.specs.Nand.{ticked}
@@ -9,12 +9,18 @@ use Rattle.nl_pagemap.specs.Placing.{IsProgrammed, next_entry, placed, spent}
 use Rattle.nl_pagemap.specs.Stands.{IsMapped}
 use Rattle.nl_pagemap.proofs.Counts.{done_faults, done_stamp, earlier, failed_faults, failed_stamp}
 use Rattle.nl_pagemap.proofs.Programmed.{not_both}
+use Rattle.nl_pagemap.proofs.Numbers.{within}
 use Rattle.nl_pagemap.proofs.Placed.{bytes_here, bytes_kept, count_now, is_new, left_with, live_now, map_now, named_other, placed_mapped, stays, wrote}
 use Rattle.nl_pagemap.proofs.Wasted.{fails, left_without, wasted_bytes, wasted_map, wasted_mapped}
 use Rattle.nl_pagemap_names.specs.Table.{Table, given}
 use Rattle.nl_vseg.specs.Places.{map_of, stamp_for}
 use Rattle.nl_vseg.specs.Segment.{SegmentHasUnmapped}
 use Rattle.nl_pagemap.proofs.named_pages.PagemapNamedPages.nameless_write.Goals as goal
+
+pub give-requires : goal.give-requires
+give-requires g c =
+    subst (λ (x : Mapped). c.new_pointer-at.result.name < length x.table.entries) (sym c.program.ensures.spends)
+    (within c.requires.formed c.new_pointer-at.result.name c.new_pointer-at.ensures.below)
 
 pub returns-then-self-eq0-clause-left : goal.returns-then-self-eq0-clause-left
 returns-then-self-eq0-clause-left g c told = record {

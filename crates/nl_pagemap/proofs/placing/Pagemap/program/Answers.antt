@@ -17,6 +17,9 @@ program_page-answer-requires-clause-erased g c t =
 pub program_page-answer-requires-clause-spelled : goal.program_page-answer-requires-clause-spelled
 program_page-answer-requires-clause-spelled g c = spelled c.args.self.now.next c.requires.formed.some c.requires.stamp
 
+pub returns-clause-spends : goal.returns-clause-spends
+returns-clause-spends g c = refl
+
 pub returns-clause-others : goal.returns-clause-others
 returns-clause-others g c t =
     let d = c.args.self.now in
