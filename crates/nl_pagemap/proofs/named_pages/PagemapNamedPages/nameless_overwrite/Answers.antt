@@ -139,7 +139,7 @@ returns-in-Done-clause-formed g c =
     let room : 0 < s.room = omega (arith, c.if-self-eq0.false) in
     let k : IsProgrammed g.M.Nand.tells tag main s image = record { others = e.others; holds = λ t. e.programmed t c.in-Done.is; shows = e.shows } in
     let was = led_entry (live_at d.table gone) c.args.old.stamp (sym c.leads.ensures ∙ c.if-not-leads.false) in
-    let table = c.release.ensures ∙ (ap (released gone) c.give.ensures ∙ (λ i. released gone (given at.name (record { page = d.head; tag = tag; stamp = n.stamp i }) (e.spends i).table))) in
+    let table : c.release.new.self ≡ released gone (given at.name (next_entry tag s) s.table) = c.release.ensures ∙ (ap (released gone) c.give.ensures ∙ (λ i. released gone (given at.name (record { page = d.head; tag = tag; stamp = n.stamp i }) (e.spends i).table))) in
     let count : c.program.new.self.count ≡ s.count + 1 - 1 = ap (λ (x : Mapped). x.count) e.spends ∙ omega arith in
     let t : Mapped = record (seen g.M.Nand.contents c.program.new.self) { table = c.release.new.self } in
     let path : t ≡ dropped gone (placed at.name tag image s) = λ i. record (e.spends i) { table = table i; count = count i } in
@@ -161,7 +161,7 @@ returns-in-Done-clause-placed g c =
     let room : 0 < s.room = omega (arith, c.if-self-eq0.false) in
     let k : IsProgrammed g.M.Nand.tells tag main s image = record { others = e.others; holds = λ t. e.programmed t c.in-Done.is; shows = e.shows } in
     let was = led_entry (live_at d.table gone) c.args.old.stamp (sym c.leads.ensures ∙ c.if-not-leads.false) in
-    let table = c.release.ensures ∙ (ap (released gone) c.give.ensures ∙ (λ i. released gone (given at.name (record { page = d.head; tag = tag; stamp = n.stamp i }) (e.spends i).table))) in
+    let table : c.release.new.self ≡ released gone (given at.name (next_entry tag s) s.table) = c.release.ensures ∙ (ap (released gone) c.give.ensures ∙ (λ i. released gone (given at.name (record { page = d.head; tag = tag; stamp = n.stamp i }) (e.spends i).table))) in
     let count : c.program.new.self.count ≡ s.count + 1 - 1 = ap (λ (x : Mapped). x.count) e.spends ∙ omega arith in
     let t : Mapped = record (seen g.M.Nand.contents c.program.new.self) { table = c.release.new.self } in
     let path : t ≡ dropped gone (placed at.name tag image s) = λ i. record (e.spends i) { table = table i; count = count i } in
@@ -198,7 +198,7 @@ returns-in-Done-clause-left g c told =
     let room : 0 < s.room = omega (arith, c.if-self-eq0.false) in
     let k : IsProgrammed g.M.Nand.tells tag main s image = record { others = e.others; holds = λ t. e.programmed t c.in-Done.is; shows = e.shows } in
     let was = led_entry (live_at d.table gone) c.args.old.stamp (sym c.leads.ensures ∙ c.if-not-leads.false) in
-    let table = c.release.ensures ∙ (ap (released gone) c.give.ensures ∙ (λ i. released gone (given at.name (record { page = d.head; tag = tag; stamp = n.stamp i }) (e.spends i).table))) in
+    let table : c.release.new.self ≡ released gone (given at.name (next_entry tag s) s.table) = c.release.ensures ∙ (ap (released gone) c.give.ensures ∙ (λ i. released gone (given at.name (record { page = d.head; tag = tag; stamp = n.stamp i }) (e.spends i).table))) in
     let count : c.program.new.self.count ≡ s.count + 1 - 1 = ap (λ (x : Mapped). x.count) e.spends ∙ omega arith in
     let t : Mapped = record (seen g.M.Nand.contents c.program.new.self) { table = c.release.new.self } in
     let path : t ≡ dropped gone (placed at.name tag image s) = λ i. record (e.spends i) { table = table i; count = count i } in
@@ -226,7 +226,7 @@ returns-in-Done-clause-kept g c =
     let room : 0 < s.room = omega (arith, c.if-self-eq0.false) in
     let k : IsProgrammed g.M.Nand.tells tag main s image = record { others = e.others; holds = λ t. e.programmed t c.in-Done.is; shows = e.shows } in
     let was = led_entry (live_at d.table gone) c.args.old.stamp (sym c.leads.ensures ∙ c.if-not-leads.false) in
-    let table = c.release.ensures ∙ (ap (released gone) c.give.ensures ∙ (λ i. released gone (given at.name (record { page = d.head; tag = tag; stamp = n.stamp i }) (e.spends i).table))) in
+    let table : c.release.new.self ≡ released gone (given at.name (next_entry tag s) s.table) = c.release.ensures ∙ (ap (released gone) c.give.ensures ∙ (λ i. released gone (given at.name (record { page = d.head; tag = tag; stamp = n.stamp i }) (e.spends i).table))) in
     let count : c.program.new.self.count ≡ s.count + 1 - 1 = ap (λ (x : Mapped). x.count) e.spends ∙ omega arith in
     let t : Mapped = record (seen g.M.Nand.contents c.program.new.self) { table = c.release.new.self } in
     let path : t ≡ dropped gone (placed at.name tag image s) = λ i. record (e.spends i) { table = table i; count = count i } in

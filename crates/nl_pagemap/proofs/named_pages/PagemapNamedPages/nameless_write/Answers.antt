@@ -112,7 +112,7 @@ returns-in-Done-clause-formed g c =
     let at = c.new_pointer-at.result in
     let n = c.new_pointer-at.ensures in
     let k : IsProgrammed g.M.Nand.tells c.args.tag c.args.from.now.main s image = record { others = e.others; holds = λ t. e.programmed t c.in-Done.is; shows = e.shows } in
-    let table = c.give.ensures ∙ (λ i. given at.name (record { page = d.head; tag = c.args.tag; stamp = n.stamp i }) (e.spends i).table) in
+    let table : c.give.new.self ≡ given at.name (next_entry c.args.tag s) s.table = c.give.ensures ∙ (λ i. given at.name (record { page = d.head; tag = c.args.tag; stamp = n.stamp i }) (e.spends i).table) in
     let path : record (seen g.M.Nand.contents c.program.new.self) { table = c.give.new.self; count = c.program.new.self.count + 1 } ≡ placed at.name c.args.tag image s = λ i. record (e.spends i) { table = table i; count = (e.spends i).count + 1 } in
     subst (λ (x : Geometry). IsMapped g.M.Nand.tells x (record (seen g.M.Nand.contents c.program.new.self) { table = c.give.new.self; count = c.program.new.self.count + 1 })) (sym e.counted.same_geometry)
     (subst (λ (x : Mapped). IsMapped g.M.Nand.tells (g.M.Nand.geometry d.media) x) (sym path)
@@ -131,7 +131,7 @@ returns-in-Done-clause-placed g c =
     let n = c.new_pointer-at.ensures in
     let room : 0 < s.room = omega (arith, c.if-self-eq0.false) in
     let k : IsProgrammed g.M.Nand.tells tag main s image = record { others = e.others; holds = λ t. e.programmed t c.in-Done.is; shows = e.shows } in
-    let table = c.give.ensures ∙ (λ i. given at.name (record { page = d.head; tag = tag; stamp = n.stamp i }) (e.spends i).table) in
+    let table : c.give.new.self ≡ given at.name (next_entry c.args.tag s) s.table = c.give.ensures ∙ (λ i. given at.name (record { page = d.head; tag = tag; stamp = n.stamp i }) (e.spends i).table) in
     let t : Mapped = record (seen g.M.Nand.contents c.program.new.self) { table = c.give.new.self; count = c.program.new.self.count + 1 } in
     let path : t ≡ placed at.name tag image s = λ i. record (e.spends i) { table = table i; count = (e.spends i).count + 1 } in
     let left = ap (λ (x : Mapped). x.room) path in
@@ -165,7 +165,7 @@ returns-in-Done-clause-left g c told =
     let n = c.new_pointer-at.ensures in
     let room : 0 < s.room = omega (arith, c.if-self-eq0.false) in
     let k : IsProgrammed g.M.Nand.tells tag main s image = record { others = e.others; holds = λ t. e.programmed t c.in-Done.is; shows = e.shows } in
-    let table = c.give.ensures ∙ (λ i. given at.name (record { page = d.head; tag = tag; stamp = n.stamp i }) (e.spends i).table) in
+    let table : c.give.new.self ≡ given at.name (next_entry c.args.tag s) s.table = c.give.ensures ∙ (λ i. given at.name (record { page = d.head; tag = tag; stamp = n.stamp i }) (e.spends i).table) in
     let t : Mapped = record (seen g.M.Nand.contents c.program.new.self) { table = c.give.new.self; count = c.program.new.self.count + 1 } in
     let path : t ≡ placed at.name tag image s = λ i. record (e.spends i) { table = table i; count = (e.spends i).count + 1 } in
     let later = e.later in
@@ -190,7 +190,7 @@ returns-in-Done-clause-kept g c =
     let n = c.new_pointer-at.ensures in
     let room : 0 < s.room = omega (arith, c.if-self-eq0.false) in
     let k : IsProgrammed g.M.Nand.tells tag main s image = record { others = e.others; holds = λ t. e.programmed t c.in-Done.is; shows = e.shows } in
-    let table = c.give.ensures ∙ (λ i. given at.name (record { page = d.head; tag = tag; stamp = n.stamp i }) (e.spends i).table) in
+    let table : c.give.new.self ≡ given at.name (next_entry c.args.tag s) s.table = c.give.ensures ∙ (λ i. given at.name (record { page = d.head; tag = tag; stamp = n.stamp i }) (e.spends i).table) in
     let t : Mapped = record (seen g.M.Nand.contents c.program.new.self) { table = c.give.new.self; count = c.program.new.self.count + 1 } in
     let path : t ≡ placed at.name tag image s = λ i. record (e.spends i) { table = table i; count = (e.spends i).count + 1 } in
     record {
