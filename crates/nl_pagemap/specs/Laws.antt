@@ -1,7 +1,7 @@
 -- What holds of each device whose tables stand.
 use Rattle.std.proofs.Common.{◌≡◌, ◌⊎◌, inl, inr, ℕ, ◌+◌, ◌-◌, ◌*◌, ◌/◌, ◌<◌, ◌≤◌, Bool, true, false, cond, List, [], length, Option, Some, None, option_map, refl, sym, ◌∙◌, ap, subst, arith}
 use Rattle.std.specs.Prelude.{◌≢◌, slice_index_or}
-use Rattle.std.proofs.Math.Nat.{div-lt_iff_lt-mul, div-mul-le_self, lt-div-mul-add}
+use Rattle.std.proofs.Math.Nat.{div-mul-le_self, lt-div-mul-add}
 use Rattle.std.proofs.lemmas.List.{get_or_past}
 use Rattle.std.proofs.lemmas.Option.{none-some, same_Some}
 use Rattle.nl_field.specs.Live.{LiveEntry}
@@ -90,7 +90,9 @@ is_a_state {tells} {geometry} {s} f = record {
       let b = entry_was q (bytes_at s q) (page_live s.table q) e live_q in
       let x = given_as s p a.0 a.1 in
       let y = given_as s q b.0 b.1 in
-      f.differ p q x.0 y.0 x.1 y.1 (ap (λ (l : LivePage). l.stamp) x.2 ∙ (a.2 ∙ (same ∙ (sym b.2 ∙ sym (ap (λ (l : LivePage). l.stamp) y.2)))));
+      let first = ap (λ (l : LivePage). l.stamp) x.2 in
+      let second = ap (λ (l : LivePage). l.stamp) y.2 in
+      f.differ p q x.0 y.0 x.1 y.1 (first ∙ (a.2 ∙ (same ∙ (sym b.2 ∙ sym second))));
   own = λ p e live. refl;
   old_names_differ = λ i j d less within. absurd (omega (arith, within));
   no_chain = tt;
@@ -137,8 +139,16 @@ is_names {tells} {geometry} {s} f = record {
   pairs = refl;
   counted = refl;
   from_first = λ n page live. (live_is f n page live).3.from;
-  to_last = λ n page live. let below = (live_is f n page live).3.below in let last = f.numbers.last in let some = f.bounds.least_pages in omega (arith, below, last, some);
-  below = λ n page live. let w = live_is f n page live in let stamp = w.3.stamp in let same = ap (λ (x : LivePage). x.stamp) w.1 in omega (arith, stamp, same);
+  to_last = λ n page live.
+      let below = (live_is f n page live).3.below in
+      let last = f.numbers.last in
+      let some = f.bounds.least_pages in
+      omega (arith, below, last, some);
+  below = λ n page live.
+      let w = live_is f n page live in
+      let stamp = w.3.stamp in
+      let same = ap (λ (x : LivePage). x.stamp) w.1 in
+      omega (arith, stamp, same);
   given = λ c none. absurd none;
   marked = λ n t is. absurd (none-some t is);
 }
@@ -186,12 +196,16 @@ leaves_in {tells} {geometry} {s} f c holds =
         let some = f.bounds.least_pages in
         let least : n / s.shape.pages * s.shape.pages ≤ n = div-mul-le_self n s.shape.pages in
         let last : (s.shape.blocks - 1) * s.shape.pages ≤ n = subst (λ k. k * s.shape.pages ≤ n) same least in
-        let all : s.shape.blocks * s.shape.pages ≡ (s.shape.blocks - 1) * s.shape.pages + s.shape.pages = one_more s.shape.blocks s.shape.pages (let b = f.bounds.least_blocks in omega (arith, b)) in
+        let many = f.bounds.least_blocks in
+        let all : s.shape.blocks * s.shape.pages ≡ (s.shape.blocks - 1) * s.shape.pages + s.shape.pages =
+            one_more s.shape.blocks s.shape.pages (omega (arith, many)) in
         absurd (omega (arith, below, ends, last, all))
       where
         one_more : (n m : ℕ) → 1 ≤ n → n * m ≡ (n - 1) * m + m
         one_more ℕ.zero m some = absurd (omega (arith, some))
-        one_more (ℕ.suc n) m some = let less : ℕ.suc n - 1 ≡ n = omega arith in subst (λ k. ℕ.suc n * m ≡ k * m + m) (sym less) (omega arith)
+        one_more (ℕ.suc n) m some =
+            let less : ℕ.suc n - 1 ≡ n = omega arith in
+            subst (λ k. ℕ.suc n * m ≡ k * m + m) (sym less) (omega arith)
 
 pub leaves_pages : {tells : Type 0} {geometry : Geometry} {s : Mapped} → IsMapped tells geometry s → tells
     → LeavesPages s.shape (names_of s) (λ n. bytes_at s n) (stored_in s)
