@@ -198,7 +198,7 @@ leaves_in {tells} {geometry} {s} f c holds =
         let last : (s.shape.blocks - 1) * s.shape.pages ≤ n = subst (λ k. k * s.shape.pages ≤ n) same least in
         let many = f.bounds.least_blocks in
         let all : s.shape.blocks * s.shape.pages ≡ (s.shape.blocks - 1) * s.shape.pages + s.shape.pages =
-            one_more s.shape.blocks s.shape.pages (omega (arith, many)) in
+        one_more s.shape.blocks s.shape.pages (omega (arith, many)) in
         absurd (omega (arith, below, ends, last, all))
       where
         one_more : (n m : ℕ) → 1 ≤ n → n * m ≡ (n - 1) * m + m

@@ -67,14 +67,7 @@ impl<M: Nand> Pagemap<M> {
         ensures counted { OperationCounted M.geometry M.clock M.read_faults M.write_faults self.old.media self.new.media result }
     {
         self.buf.copy_from(from);
-        let answer = program_page(
-            &mut self.media,
-            self.head,
-            &mut self.buf,
-            tag,
-            self.next,
-            0,
-        );
+        let answer = program_page(&mut self.media, self.head, &mut self.buf, tag, self.next, 0);
         self.head += 1;
         self.room -= 1;
         self.free = 1 + self.room / self.shape.pages;

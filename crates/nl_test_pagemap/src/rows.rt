@@ -255,22 +255,13 @@ fn look(device: &Pagemap<MemNand>, step: Step) -> Seen
         Step::FreeBlocks => Seen::Number(u64::from(device.free_blocks())),
         Step::Entries => Seen::Number(u64::from(device.entries())),
         Step::NextStamp => Seen::Number(device.next_stamp()),
-        Step::Counts => Seen::Counts(
-            device.clock(),
-            device.read_faults(),
-            device.write_faults(),
-        ),
+        Step::Counts => Seen::Counts(device.clock(), device.read_faults(), device.write_faults()),
         _ => Seen::Beyond,
     }
 }
 
 /// Whether the call answers so, and the device can be called on.
-fn answers_so(
-    device: &mut Pagemap<MemNand>,
-    buf: &mut PageBuf,
-    step: Step,
-    want: Seen,
-) -> bool
+fn answers_so(device: &mut Pagemap<MemNand>, buf: &mut PageBuf, step: Step, want: Seen) -> bool
     requires { HasAddressed device.old }
     ensures { IsTrue result → HasAddressed device.new }
 {
@@ -310,11 +301,7 @@ fn differs(
 }
 
 /// The first row that the device of a blank medium answers otherwise, whose program or erase of this number fails.
-fn found(
-    alloc: Global,
-    fails: u64,
-    table: &[(Step, Seen)],
-) -> Result<Option<usize>, Memory> {
+fn found(alloc: Global, fails: u64, table: &[(Step, Seen)]) -> Result<Option<usize>, Memory> {
     let mut buf = PageBuf::new(alloc)?;
     let media = blank(alloc, fails)?;
     let mut device = made(alloc, media)?;
