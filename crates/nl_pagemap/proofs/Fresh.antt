@@ -32,12 +32,15 @@ fits h b =
     let fill = b.data_pages in
     omega (arith, all, parts, fill)
 
+abbrev num : Bool → ℕ
+num b = cond b 1 0
+
 -- no number of a range passes
 none_pass : (P : ℕ → Bool) (a n : ℕ) → ((k : ℕ) → P k ≡ false) → count_by P (range_with_len a n) ≡ 0
 none_pass P a zero none = refl
 none_pass P a (suc n) none =
-    let x : count_by P (range_with_len a (suc n)) ≡ cond (P a) 1 0 + count_by P (range_with_len (a + 1) n) = sum_by-cons (λ q. cond (P q) 1 0) a (range_with_len (a + 1) n) in
-    let here : cond (P a) 1 0 ≡ 0 = ap (λ b. cond b 1 0) (none a) in
+    let x : count_by P (range_with_len a (suc n)) ≡ num (P a) + count_by P (range_with_len (a + 1) n) = sum_by-cons (λ q. num (P q)) a (range_with_len (a + 1) n) in
+    let here : num (P a) ≡ 0 = ap num (none a) in
     let rest = none_pass P (a + 1) n none in
     omega (arith, x, here, rest)
 

@@ -1,6 +1,6 @@
 pub mod Counted
-pub mod Counts
 pub mod Dropped
+pub mod Failures
 pub mod Found
 pub mod Fresh
 pub mod Images

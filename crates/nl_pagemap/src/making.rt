@@ -24,7 +24,7 @@ struct Parts {
 }
 
 /// A segment without an address, and a table without a number in use.
-fn parts(alloc: Global, shape: &Shape, first: u32, last: u32, count: u32) -> Result<Parts, Memory>
+fn fresh_parts(alloc: Global, shape: &Shape, first: u32, last: u32, count: u32) -> Result<Parts, Memory>
     requires legal { IsTrue (is_legal shape.now.blocks shape.now.pages) }
     requires numbers { shape.now ≡ shape_for shape.now.blocks shape.now.pages }
     ensures places { IfOk result (λ p. p.vseg.places ≡ replicate shape.now.vaddrs None) }
@@ -61,7 +61,7 @@ impl<M: Nand> Pagemap<M> {
         let all = shape.blocks * shape.pages;
         let head = shape.vblocks * shape.pages;
         let room = all - shape.pages - head;
-        match parts(alloc, &shape, head, all - shape.pages, all) {
+        match fresh_parts(alloc, &shape, head, all - shape.pages, all) {
             Ok(Parts { vseg, table, buf }) => Ok(Pagemap {
                 media,
                 shape,

@@ -1,5 +1,5 @@
 use Rattle.std.proofs.Common.{inl, refl, arith}
-use Rattle.nl_pagemap.proofs.Counts.{refused_faults}
+use Rattle.nl_pagemap.proofs.Failures.{refused_faults}
 use Rattle.nl_pagemap.specs.Laws.{holds_live}
 use Rattle.nl_pagemap.proofs.moving_pages.PagemapMovingPages.erase.Goals as goal
 

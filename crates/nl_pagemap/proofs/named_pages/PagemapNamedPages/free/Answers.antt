@@ -12,6 +12,14 @@ release-requires g c =
     let was = led_entry (live_at d.table c.args.at.name) c.args.at.stamp (sym c.leads.ensures ∙ c.if-not-leads.false) in
     dropped_within (seen g.M.Nand.contents d) c.requires.formed c.args.at.name was.0 was.1
 
+pub overflow_sub-self : goal.overflow_sub-self
+overflow_sub-self g c =
+    let d = c.args.self.now in
+    let was = led_entry (live_at d.table c.args.at.name) c.args.at.stamp (sym c.leads.ensures ∙ c.if-not-leads.false) in
+    let less = count_dropped (seen g.M.Nand.contents d) c.requires.formed c.args.at.name was.0 was.1 in
+    let count = c.requires.formed.count in
+    omega (arith, less, count)
+
 pub returns-clause-formed : goal.returns-clause-formed
 returns-clause-formed g c =
     let d = c.args.self.now in

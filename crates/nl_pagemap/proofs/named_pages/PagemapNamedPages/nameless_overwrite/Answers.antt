@@ -7,7 +7,7 @@ use Rattle.nl_nand.specs.declared.geometry.Geometry.{Geometry}
 use Rattle.nl_pagemap.specs.Mapped.{Mapped, bytes_at, live_among, named_at, page_live, seen, stored_in}
 use Rattle.nl_pagemap.specs.Placing.{IsProgrammed, dropped, next_entry, placed, spent}
 use Rattle.nl_pagemap.specs.Stands.{IsMapped}
-use Rattle.nl_pagemap.proofs.Counts.{done_faults, done_stamp, earlier, failed_faults, failed_stamp}
+use Rattle.nl_pagemap.proofs.Failures.{done_faults, done_stamp, earlier, failed_faults, failed_stamp}
 use Rattle.nl_pagemap.proofs.Programmed.{not_both}
 use Rattle.std.proofs.lemmas.List.{length-set}
 use Rattle.nl_pagemap.proofs.Dropped.{dropped_within, led_entry}
@@ -62,7 +62,7 @@ returns-in-Failed-clause-formed g c =
     (wasted_mapped s image c.requires.formed (omega (arith, c.if-self-eq0.false)) c.requires.stamp e.others))
 
 pub returns-in-Failed-clause-none : goal.returns-in-Failed-clause-none
-returns-in-Failed-clause-none g c no =
+returns-in-Failed-clause-none g c unplaced =
     let s = seen g.M.Nand.contents c.args.self.now in
     let e = c.program.ensures in
     record {

@@ -6,7 +6,7 @@ use Rattle.nl_iface.specs.Stored.{Stored, Value, failed_beside, with_value}
 use Rattle.nl_nand.specs.declared.geometry.Geometry.{Geometry}
 use Rattle.nl_pagemap.specs.Mapped.{Mapped, seen, stored_in}
 use Rattle.nl_pagemap.specs.Stands.{IsMapped}
-use Rattle.nl_pagemap.proofs.Counts.{more_in_all, rose_in_all}
+use Rattle.nl_pagemap.proofs.Failures.{more_in_all, rose_in_all}
 use Rattle.nl_pagemap.proofs.Programmed.{spelled}
 use Rattle.nl_pagemap.proofs.Written.{addressed, addressed_mapped, beyond_of, bytes_still, done_or, fits, left_mapped, next_rises, next_taken, none_new, none_old, stamp_lost, stamps_done, write_rises}
 use Rattle.nl_vseg.specs.Places.{map_of, stamp_for}

@@ -1,6 +1,6 @@
 use Rattle.std.proofs.Common.{◌≡◌, ◌≤◌, refl, subst, arith}
 use Rattle.nl_pagemap.proofs.Numbers.{some_free}
-use Rattle.nl_pagemap.proofs.placing.Pagemap.new_pointer.Goals as goal
+use Rattle.nl_pagemap.proofs.pagemap.Pagemap.new_pointer.Goals as goal
 
 pub unreachable-requires : goal.unreachable-requires
 unreachable-requires g c = some_free c.requires.formed c.requires.room c.in-None.ensures.none

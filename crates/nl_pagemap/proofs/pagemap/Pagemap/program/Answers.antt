@@ -1,7 +1,7 @@
 use Rattle.std.proofs.Common.{◌≡◌, ◌+◌, ◌∙◌, ap, refl, sym, subst, Some, arith, ◌<◌, ◌≤◌}
 use Rattle.nl_field.specs.Page.{PageBytes, written}
 use Rattle.nl_pagemap.proofs.Programmed.{can_program, inside, next_within, outside, spelled}
-use Rattle.nl_pagemap.proofs.placing.Pagemap.program.Goals as goal
+use Rattle.nl_pagemap.proofs.pagemap.Pagemap.program.Goals as goal
 use Rattle.nl_pseg_pages.specs.Pages.{page_with, shown_by}
 
 pub program_page-answer-requires-clause-within : goal.program_page-answer-requires-clause-within
