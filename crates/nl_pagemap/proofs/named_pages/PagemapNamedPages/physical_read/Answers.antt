@@ -1,4 +1,4 @@
-use Rattle.std.proofs.Common.{◌≡◌, ◌⊎◌, inl, inr, ⊎_elim, ◌+◌, ◌*◌, ◌<◌, ◌≤◌, ◌^◌, Option, Some, option_map, refl, sym, ◌∙◌, ap, subst, arith}
+use Rattle.std.proofs.Common.{rules, ◌≡◌, ◌⊎◌, inl, inr, ⊎_elim, ◌+◌, ◌*◌, ◌<◌, ◌≤◌, ◌^◌, Option, Some, option_map, refl, sym, ◌∙◌, ap, subst, arith}
 use Rattle.nl_field.specs.CrashStates.{saturated}
 use Rattle.nl_field.specs.Page.{Image, page_at}
 use Rattle.nl_iface.specs.Found.{IsUnderTag}
@@ -19,14 +19,13 @@ use Rattle.nl_pagemap.proofs.named_pages.PagemapNamedPages.physical_read.Goals a
 pub returns-then-ne-clause-answer : goal.returns-then-ne-clause-answer
 returns-then-ne-clause-answer g c =
     let live = c.in-Some.ensures.some in
-    let h1 = c.ne.ensures in
-    let h2 = c.if-ne in
+    let other : c.in-Some.entry.tag ≡ c.args.tag → ⊥ = search rules in
     record {
       not_live = led_not _ _ c.in-Some.entry c.args.at.stamp (λ e. cc) live.0 live.1;
       lost = (refl, λ e. absurd (let some = (c.requires.formed.entries c.args.at.name c.in-Some.entry (live_entry c.args.self.now.table.entries c.args.self.now.table.used c.args.at.name c.in-Some.entry live.0)).some in let same = live.1 in omega (arith, e, some, same)));
       owner = λ is. cc;
       bytes = λ t is. cc;
-      told = λ t owned lost. absurd (c.if-ne.true (subst (λ (o : Option Entry). has_tag (option_map page_of o) c.args.tag) live.0 owned));
+      told = λ t owned lost. absurd (other (subst (λ (o : Option Entry). has_tag (option_map page_of o) c.args.tag) live.0 owned));
     }
 
 pub returns-then-ne-clause-told : goal.returns-then-ne-clause-told
@@ -34,9 +33,10 @@ returns-then-ne-clause-told g c t =
     let d = c.args.self.now in
     let live = c.in-Some.ensures.some in
     let e = c.in-Some.entry in
+    let other : c.in-Some.entry.tag ≡ c.args.tag → ⊥ = search rules in
     let here : entry_at d.table c.args.at.name ≡ Some e = live_entry d.table.entries d.table.used c.args.at.name e live.0 in
     subst (λ (o : Option Entry). IsUnderTag (named_by (g.M.Nand.contents d.media) o) c.args.tag 0) (sym here)
-    (under_other (g.M.Nand.contents d.media) e c.args.tag ((c.requires.formed.medium t).holds c.args.at.name e here) c.if-ne.true)
+    (under_other (g.M.Nand.contents d.media) e c.args.tag ((c.requires.formed.medium t).holds c.args.at.name e here) other)
 
 pub read_page-requires-clause-within : goal.read_page-requires-clause-within
 read_page-requires-clause-within g c =
@@ -75,14 +75,15 @@ returns-clause-answer g c =
     let e = c.read_page.ensures in
     let live = c.in-Some.ensures.some in
     let entry = c.in-Some.entry in
+    let same : c.in-Some.entry.tag ≡ c.args.tag = search rules in
     let here : entry_at d.table c.args.at.name ≡ Some entry = live_entry d.table.entries d.table.used c.args.at.name entry live.0 in
     let image = g.M.Nand.contents d.media in
     record {
       not_live = led_not c.read_page.result _ entry c.args.at.stamp e.live live.0 live.1;
       lost = loses c.args.at.stamp c.read_page.result e.lost;
-      owner = λ is. subst (λ (o : Option Entry). has_tag (option_map page_of o) c.args.tag) (sym live.0) c.if-ne.false;
+      owner = λ is. subst (λ (o : Option Entry). has_tag (option_map page_of o) c.args.tag) (sym live.0) same;
       bytes = λ t is. sym (ap (λ (o : Option Entry). bytes_by image o) here ∙ ap main_of (e.value t is));
-      told = λ t owned lost. not_lost c.read_page.result (e.kept t ((c.requires.formed.medium t).holds c.args.at.name entry here ∙ (λ i. Some (c.if-ne.false i, live.1 i, main_of (page_at image entry.page))))) lost;
+      told = λ t owned lost. not_lost c.read_page.result (e.kept t ((c.requires.formed.medium t).holds c.args.at.name entry here ∙ (λ i. Some (same i, live.1 i, main_of (page_at image entry.page))))) lost;
     }
 
 pub returns-clause-found : goal.returns-clause-found
@@ -93,9 +94,10 @@ returns-clause-told g c t =
     let d = c.args.self.now in
     let live = c.in-Some.ensures.some in
     let entry = c.in-Some.entry in
+    let same : c.in-Some.entry.tag ≡ c.args.tag = search rules in
     let here : entry_at d.table c.args.at.name ≡ Some entry = live_entry d.table.entries d.table.used c.args.at.name entry live.0 in
     finds_either _ c.args.tag c.read_page.result
-    (c.read_page.ensures.kept t ((c.requires.formed.medium t).holds c.args.at.name entry here ∙ (λ i. Some (c.if-ne.false i, live.1 i, main_of (page_at (g.M.Nand.contents d.media) entry.page)))))
+    (c.read_page.ensures.kept t ((c.requires.formed.medium t).holds c.args.at.name entry here ∙ (λ i. Some (same i, live.1 i, main_of (page_at (g.M.Nand.contents d.media) entry.page)))))
 
 pub returns-clause-kept : goal.returns-clause-kept
 returns-clause-kept g c =
