@@ -1,8 +1,8 @@
 -- What stands in the table after one number was given an entry, or released.
-use Rattle.std.proofs.Common.{◌≡◌, ◌⊎◌, inl, inr, ℕ, ◌<◌, ◌==◌, if◌then◌else◌, Bool, true, false, cond, List, Option, Some, None, length, sym, ◌∙◌, ap, subst, eq-eqb, ne_eqb, get_or, set}
+use Rattle.std.proofs.Common.{◌≡◌, inl, inr, ℕ, ◌<◌, ◌==◌, if◌then◌else◌, Bool, true, false, cond, List, Option, Some, None, length, sym, ◌∙◌, ap, subst, eq-eqb, ne_eqb, get_or, set}
 use Rattle.std.proofs.lemmas.Bool.{cases_eq, cond-false, cond-true}
 use Rattle.std.proofs.lemmas.List.{get_or-set_same, get_or-set_other, length-set}
-use Rattle.std.proofs.lemmas.Option.{none-some, same_Some}
+use Rattle.std.proofs.lemmas.Option.{none-some}
 use Rattle.nl_pagemap_names.specs.Table.{IsTable, Table, entry_at, entry_in, given, live_at, live_in, released}
 use Rattle.nl_pagemap_names.specs.declared.entry.Entry.{Entry}
 

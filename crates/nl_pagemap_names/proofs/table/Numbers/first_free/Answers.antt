@@ -1,4 +1,4 @@
-use Rattle.std.proofs.Common.{◌≡◌, ℕ, ◌<◌, ◌≤◌, arith}
+use Rattle.std.proofs.Common.{arith}
 use Rattle.nl_pagemap_names.proofs.table.Numbers.first_free.Goals as goal
 
 pub returns-then-is_free-clause-some : goal.returns-then-is_free-clause-some

@@ -1,4 +1,4 @@
-use Rattle.std.proofs.Common.{◌≡◌, ◌<◌, length, sym, ap, subst}
+use Rattle.std.proofs.Common.{◌<◌, length, sym, ap, subst}
 use Rattle.nl_pagemap_names.specs.Table.{Table, given}
 use Rattle.nl_pagemap_names.proofs.Changed.{given_table}
 use Rattle.nl_pagemap_names.proofs.table.Numbers.give.Goals as goal
