@@ -1,16 +1,15 @@
 -- A number is in use no longer.
-use Rattle.std.proofs.Common.{◌≡◌, ℕ, ◌+◌, ◌-◌, ◌*◌, ◌<◌, ◌≤◌, ◌==◌, Option, Some, None, option_map, length, refl, sym, ◌∙◌, ap, arith, eqb-true, true}
-use Rattle.std.proofs.lemmas.Option.{none-some}
+use Rattle.std.proofs.Common.{◌≡◌, ℕ, ◌+◌, ◌<◌, Option, Some, None, option_map, length, refl, arith, eqb-true, true}
 use Rattle.std.proofs.lemmas.Bool.{false≢true}
 use Rattle.nl_field.specs.Medium.{first_physical}
-use Rattle.nl_iface.specs.Names.{LivePage, has_stamp, without_page}
+use Rattle.nl_iface.specs.Names.{has_stamp, without_page}
 use Rattle.nl_nand.specs.declared.geometry.Geometry.{Geometry}
 use Rattle.nl_pagemap.specs.Laws.{live_entry}
 use Rattle.nl_pagemap.specs.Mapped.{Mapped, live_among, page_live, page_of}
 use Rattle.nl_pagemap.specs.Placing.{dropped}
 use Rattle.nl_pagemap.specs.Stands.{IsEntry, IsMapped}
 use Rattle.nl_pagemap.proofs.Numbers.{count_without, in_segment, live_without, numbers_without, within}
-use Rattle.nl_pagemap_names.specs.Table.{entry_at, live_at}
+use Rattle.nl_pagemap_names.specs.Table.{live_at}
 use Rattle.nl_pagemap_names.specs.declared.entry.Entry.{Entry}
 
 -- a number under which a page of this stamp is live has an entry of this stamp

@@ -1,5 +1,5 @@
 -- The count of failures: those of the medium, and the erases that were refused.
-use Rattle.std.proofs.Common.{◌≡◌, ℕ, ◌+◌, ◌<◌, ◌≤◌, arith}
+use Rattle.std.proofs.Common.{◌≡◌, ℕ, ◌+◌, ◌≤◌, arith}
 use Rattle.nl_field.specs.CrashStates.{Earlier, Rose, saturated, top}
 use Rattle.nl_iface.specs.Counting.{FailuresCounted, StampRises}
 

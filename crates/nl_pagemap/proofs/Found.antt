@@ -1,9 +1,8 @@
 -- What a read of a page tells.
-use Rattle.std.proofs.Common.{◌≡◌, ◌⊎◌, inl, inr, ⊎_elim, ℕ, ◌+◌, ◌≤◌, List, Option, Some, None, option_map, true, false, refl, sym, ◌∙◌, ap, subst, arith, eq-eqb, ne_eqb}
-use Rattle.std.specs.Prelude.{◌↔◌, ◌≢◌, ⊤}
+use Rattle.std.proofs.Common.{◌≡◌, ◌⊎◌, inl, inr, ℕ, Option, Some, None, option_map, true, false, refl, sym, ◌∙◌, ap, subst, arith, eq-eqb}
+use Rattle.std.specs.Prelude.{◌↔◌, ⊤}
 use Rattle.std.proofs.lemmas.Bool.{false≢true}
-use Rattle.std.proofs.lemmas.Option.{none-some, same_Some}
-use Rattle.nl_field.specs.CrashStates.{Rose, saturated}
+use Rattle.std.proofs.lemmas.Option.{same_Some}
 use Rattle.nl_field.specs.Page.{Image, PageBytes, page_at}
 use Rattle.nl_field.specs.SpareRecord.{spare_rec_of}
 use Rattle.nl_field.specs.declared.answers.NamedRead.{NamedRead}

@@ -1,5 +1,5 @@
 -- A device that nothing was written to.
-use Rattle.std.proofs.Common.{◌≡◌, ⊎_elim, ℕ, zero, suc, ◌+◌, ◌-◌, ◌*◌, ◌/◌, ◌<◌, ◌≤◌, Bool, true, false, cond, count_by, List, Option, Some, None, is_some, option_map, length, replicate, get_or, refl, sym, ◌∙◌, ap, subst, arith}
+use Rattle.std.proofs.Common.{◌≡◌, ⊎_elim, ℕ, zero, suc, ◌+◌, ◌-◌, ◌*◌, ◌/◌, ◌<◌, Bool, true, false, cond, count_by, List, Option, None, is_some, option_map, length, replicate, get_or, refl, sym, ◌∙◌, ap, arith}
 use Rattle.std.specs.List.{range_with_len}
 use Rattle.std.proofs.lemmas.Bool.{cases_lt}
 use Rattle.std.proofs.lemmas.List.{get_or-replicate, get_or_past, length-replicate}
@@ -14,7 +14,7 @@ use Rattle.nl_nand.specs.Nand.{IsBlank}
 use Rattle.nl_nand.specs.declared.geometry.Geometry.{Geometry}
 use Rattle.nl_pagemap.specs.Mapped.{Mapped, live_among, page_live, page_of}
 use Rattle.nl_pagemap.specs.Stands.{IsMapped}
-use Rattle.nl_pagemap_names.specs.Table.{Table, entry_at, live_at}
+use Rattle.nl_pagemap_names.specs.Table.{Table, entry_at}
 use Rattle.nl_pagemap_names.specs.declared.entry.Entry.{Entry}
 use Rattle.nl_vseg.specs.Places.{place_of, stamp_for, stamp_in_place}
 use Rattle.nl_vseg.specs.Segment.{Segment, is_taken_as_erased}

@@ -1,7 +1,6 @@
 -- What the tables lead to where pages of the medium have changed.
-use Rattle.std.proofs.Common.{◌≡◌, ℕ, ◌+◌, ◌*◌, ◌<◌, ◌≤◌, true, List, Option, Some, None, refl, sym, ◌∙◌, ap, arith}
-use Rattle.nl_field.specs.Page.{Image, Page, page_at}
-use Rattle.nl_nand.specs.Nand.{CanProgram}
+use Rattle.std.proofs.Common.{◌≡◌, ℕ, ◌<◌, true, List, Option, Some, None, refl, sym, ◌∙◌, ap}
+use Rattle.nl_field.specs.Page.{Image, page_at}
 use Rattle.nl_pagemap.specs.Mapped.{bytes_by, named_by, named_on}
 use Rattle.nl_pagemap_names.specs.declared.entry.Entry.{Entry}
 use Rattle.nl_pseg_pages.specs.Pages.{main_of, shown_by}

@@ -1,17 +1,15 @@
 -- Which numbers can be given out, and how many are in use.
-use Rattle.std.proofs.Common.{◌≡◌, ◌⊎◌, inl, inr, ⊎_elim, ℕ, ◌+◌, ◌-◌, ◌*◌, ◌<◌, ◌≤◌, ◌==◌, if◌then◌else◌, Bool, true, false, List, Option, Some, None, is_some, option_map, length, set, refl, sym, ◌∙◌, ap, subst, arith, eq-eqb, ne_eqb}
-use Rattle.std.proofs.lemmas.Bool.{cases_eq, cond-false, cond-true}
+use Rattle.std.proofs.Common.{◌≡◌, ℕ, ◌+◌, ◌-◌, ◌*◌, ◌<◌, ◌≤◌, ◌==◌, if◌then◌else◌, Bool, true, false, Option, Some, None, is_some, option_map, length, refl, sym, ◌∙◌, ap, arith, eq-eqb, ne_eqb}
+use Rattle.std.proofs.lemmas.Bool.{cond-false, cond-true}
 use Rattle.std.proofs.lemmas.List.{length-set}
 use Rattle.nl_field.specs.Medium.{first_physical}
-use Rattle.nl_field.specs.declared.pointer.Pointer.{Pointer}
 use Rattle.nl_field.specs.declared.shape.Shape.{Shape}
 use Rattle.nl_iface.specs.Names.{with_page, without_page}
 use Rattle.nl_nand.specs.declared.geometry.Geometry.{Geometry}
 use Rattle.nl_pagemap.specs.Mapped.{Mapped, live_among, page_live, page_of}
-use Rattle.nl_pagemap.specs.Placing.{IsNewPointer}
 use Rattle.nl_pagemap.specs.Stands.{HasNumbers, IsMapped}
 use Rattle.nl_pagemap.proofs.Counted.{many, one_more}
-use Rattle.nl_pagemap_names.specs.Table.{IsTable, Table, entry_at, given, live_at, released}
+use Rattle.nl_pagemap_names.specs.Table.{IsTable, Table, given, live_at, released}
 use Rattle.nl_pagemap_names.specs.declared.entry.Entry.{Entry}
 use Rattle.nl_pagemap_names.proofs.Changed.{given_live, released_live}
 

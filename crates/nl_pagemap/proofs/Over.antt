@@ -1,5 +1,5 @@
 -- A page was written in place of one that is in use no longer.
-use Rattle.std.proofs.Common.{◌≡◌, ◌⊎◌, inl, inr, ⊎_elim, ℕ, ◌+◌, ◌-◌, ◌*◌, ◌<◌, ◌≤◌, ◌==◌, ◌^◌, cond, if◌then◌else◌, Bool, true, false, List, Option, Some, None, option_map, length, refl, sym, ◌∙◌, ap, subst, arith, ne_eqb, eq-eqb}
+use Rattle.std.proofs.Common.{◌≡◌, ◌⊎◌, inl, inr, ℕ, ◌+◌, ◌<◌, ◌==◌, ◌^◌, cond, List, Option, Some, None, sym, ◌∙◌, ap, ne_eqb, eq-eqb}
 use Rattle.std.proofs.lemmas.Bool.{cases_eq, cond-false, cond-true}
 use Rattle.std.proofs.lemmas.Option.{none-some}
 use Rattle.nl_field.specs.Page.{Image}

@@ -1,9 +1,9 @@
 -- A page was written under a new number.
-use Rattle.std.proofs.Common.{◌≡◌, ◌⊎◌, inl, inr, ⊎_elim, ℕ, ◌+◌, ◌-◌, ◌*◌, ◌/◌, ◌<◌, ◌≤◌, ◌==◌, ◌^◌, if◌then◌else◌, List, Option, Some, None, option_map, length, refl, sym, ◌∙◌, ap, subst, arith, ne_eqb, eq-eqb}
+use Rattle.std.proofs.Common.{◌≡◌, ◌⊎◌, inl, inr, ⊎_elim, ℕ, ◌+◌, ◌*◌, ◌<◌, ◌==◌, ◌^◌, if◌then◌else◌, List, Option, Some, None, option_map, length, refl, sym, ◌∙◌, ap, subst, arith, ne_eqb, eq-eqb}
 use Rattle.std.proofs.lemmas.Bool.{cases_eq, cond-false, cond-true}
 use Rattle.std.proofs.lemmas.Option.{none-some, same_Some}
 use Rattle.nl_field.specs.Medium.{first_physical}
-use Rattle.nl_field.specs.Page.{Image, page_at, written}
+use Rattle.nl_field.specs.Page.{Image, page_at}
 use Rattle.nl_field.specs.declared.pointer.Pointer.{Pointer}
 use Rattle.nl_field.specs.declared.pointer.Tag.{Tag}
 use Rattle.nl_iface.specs.Left.{HoldsLive, LeavesTried}
@@ -11,7 +11,7 @@ use Rattle.nl_iface.specs.Names.{IsNewName, LivePage, with_page}
 use Rattle.nl_iface.specs.Space.{Wrote}
 use Rattle.nl_iface.specs.Stored.{NamedPage, Stored}
 use Rattle.nl_nand.specs.declared.geometry.Geometry.{Geometry}
-use Rattle.nl_pagemap.specs.Laws.{given_as, holds_live, leaves_in, leaves_pages}
+use Rattle.nl_pagemap.specs.Laws.{holds_live, leaves_in, leaves_pages}
 use Rattle.nl_pagemap.specs.Mapped.{Mapped, bytes_at, bytes_by, live_among, named_at, named_by, named_on, names_of, page_live, page_of, space_of, stored_in}
 use Rattle.nl_pagemap.specs.Placing.{IsNewPointer, IsProgrammed, next_entry, placed}
 use Rattle.nl_pagemap.specs.Stands.{IsEntry, IsMapped}
@@ -20,7 +20,7 @@ use Rattle.nl_pagemap.proofs.Numbers.{count_with, in_segment, live_with, numbers
 use Rattle.nl_pagemap_names.specs.Table.{entry_at}
 use Rattle.nl_pagemap_names.specs.declared.entry.Entry.{Entry}
 use Rattle.nl_pagemap_names.proofs.Changed.{given_entry}
-use Rattle.nl_pseg_pages.specs.Pages.{main_of, page_with, shown_by}
+use Rattle.nl_pseg_pages.specs.Pages.{main_of, shown_by}
 use Rattle.nl_vseg.specs.Places.{map_of}
 
 -- nothing is tried

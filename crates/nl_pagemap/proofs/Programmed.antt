@@ -1,10 +1,10 @@
 -- What the program of the next page leaves.
-use Rattle.std.proofs.Common.{◌≡◌, ◌⊎◌, inl, inr, ⊎_elim, ℕ, ◌+◌, ◌*◌, ◌/◌, ◌<◌, ◌≤◌, ◌^◌, ◌&&◌, nat_le, nat_lt, true, IsTrue, refl, sym, ◌∙◌, ap, subst, arith}
+use Rattle.std.proofs.Common.{◌≡◌, inl, inr, ⊎_elim, ℕ, ◌+◌, ◌*◌, ◌/◌, ◌<◌, ◌≤◌, ◌^◌, nat_le, nat_lt, IsTrue, ap, subst, arith}
 use Rattle.std.proofs.Math.Nat.{div-mul-le_self, lt-div-mul-add}
 use Rattle.std.proofs.lemmas.Bool.{and_from, cases_lt, le-leb, lt-ltb}
 use Rattle.nl_field.specs.Page.{Image, Page, erased, page_at}
 use Rattle.nl_field.specs.Spelling.{is_stamp}
-use Rattle.nl_nand.specs.Nand.{CanProgram, Filled, OperationLeaves}
+use Rattle.nl_nand.specs.Nand.{CanProgram, OperationLeaves}
 use Rattle.nl_nand.specs.declared.answers.WriteAnswer.{WriteAnswer}
 use Rattle.nl_nand.specs.declared.answers.WriteAnswer.TheVariants as write
 use Rattle.nl_nand.specs.declared.geometry.Geometry.{Geometry}

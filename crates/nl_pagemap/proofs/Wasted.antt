@@ -1,8 +1,7 @@
 -- A program failed: its page is spent, and nothing leads to it.
-use Rattle.std.proofs.Common.{◌≡◌, inl, ℕ, ◌+◌, ◌-◌, ◌*◌, ◌/◌, ◌<◌, ◌≤◌, ◌^◌, Option, Some, refl, sym, ◌∙◌, ap, subst, arith}
+use Rattle.std.proofs.Common.{◌≡◌, inl, ℕ, ◌-◌, ◌*◌, ◌<◌, ◌^◌, Some, refl, sym, ◌∙◌, ap, subst, arith}
 use Rattle.nl_field.specs.Page.{Image, page_at}
 use Rattle.nl_iface.specs.Left.{HoldsLive, LeavesTried}
-use Rattle.nl_iface.specs.Names.{LivePage}
 use Rattle.nl_iface.specs.Space.{FailsToWrite}
 use Rattle.nl_iface.specs.Stored.{NamedPage, Stored}
 use Rattle.nl_nand.specs.declared.geometry.Geometry.{Geometry}

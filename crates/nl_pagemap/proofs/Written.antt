@@ -1,20 +1,20 @@
 -- An address got a value, or its write failed.
-use Rattle.std.proofs.Common.{◌≡◌, ◌⊎◌, inl, inr, ⊎_elim, ℕ, ◌+◌, ◌*◌, ◌<◌, ◌≤◌, ◌^◌, ◌==◌, if◌then◌else◌, Bool, true, false, cond, List, Option, Some, None, refl, sym, ◌∙◌, ap, subst, arith, ne_eqb}
+use Rattle.std.proofs.Common.{◌≡◌, ◌⊎◌, inl, inr, ℕ, ◌+◌, ◌*◌, ◌<◌, ◌≤◌, ◌^◌, ◌==◌, if◌then◌else◌, Bool, true, false, cond, List, Option, Some, None, refl, sym, ◌∙◌, ap, subst, arith, ne_eqb}
 use Rattle.std.specs.Prelude.{◌↔◌}
-use Rattle.std.proofs.lemmas.Bool.{cases_lt, cond-false, false≢true}
+use Rattle.std.proofs.lemmas.Bool.{cond-false, false≢true}
 use Rattle.std.proofs.lemmas.Option.{same_Some}
-use Rattle.nl_field.specs.CrashStates.{Earlier, Rose, saturated, top}
+use Rattle.nl_field.specs.CrashStates.{Earlier, Rose, top}
 use Rattle.nl_field.specs.Page.{Image, page_at}
 use Rattle.nl_field.specs.declared.answers.VirtualWrite.{VirtualWrite}
 use Rattle.nl_field.specs.declared.answers.VirtualWrite.TheVariants as write
 use Rattle.nl_iface.specs.Answers.{LosesStamp}
 use Rattle.nl_iface.specs.Counting.{StampRises}
 use Rattle.nl_iface.specs.Left.{LeavesMap}
-use Rattle.nl_iface.specs.Stored.{Stored, Value, failed_beside, with_value}
+use Rattle.nl_iface.specs.Stored.{Stored, Value, with_value}
 use Rattle.nl_nand.specs.declared.geometry.Geometry.{Geometry}
 use Rattle.nl_pagemap.specs.Laws.{none_stored}
 use Rattle.nl_pagemap.specs.Mapped.{Mapped, bytes_at, named_at, stored_in}
-use Rattle.nl_pagemap.specs.Stands.{HasAddresses, IsMapped}
+use Rattle.nl_pagemap.specs.Stands.{IsMapped}
 use Rattle.nl_pagemap.proofs.Images.{bytes_same, named_same}
 use Rattle.nl_pagemap_names.specs.Table.{entry_at}
 use Rattle.nl_pagemap_names.specs.declared.entry.Entry.{Entry}

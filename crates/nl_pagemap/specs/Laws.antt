@@ -1,5 +1,5 @@
 -- What holds of each device whose tables stand.
-use Rattle.std.proofs.Common.{◌≡◌, ◌⊎◌, inl, inr, ℕ, ◌+◌, ◌-◌, ◌*◌, ◌/◌, ◌<◌, ◌≤◌, Bool, true, false, cond, List, [], length, Option, Some, None, option_map, refl, sym, ◌∙◌, ap, subst, arith}
+use Rattle.std.proofs.Common.{◌≡◌, inl, inr, ℕ, ◌+◌, ◌-◌, ◌*◌, ◌/◌, ◌<◌, ◌≤◌, Bool, true, false, cond, List, [], Option, Some, None, option_map, refl, sym, ◌∙◌, ap, subst, arith}
 use Rattle.std.specs.Prelude.{◌≢◌, slice_index_or}
 use Rattle.std.proofs.Math.Nat.{div-mul-le_self, lt-div-mul-add}
 use Rattle.std.proofs.lemmas.List.{get_or_past}
@@ -7,7 +7,6 @@ use Rattle.std.proofs.lemmas.Option.{none-some, same_Some}
 use Rattle.nl_field.specs.Live.{LiveEntry}
 use Rattle.nl_field.specs.Medium.{first_physical}
 use Rattle.nl_field.specs.Page.{Image, page_at}
-use Rattle.nl_field.specs.declared.shape.Shape.{Shape}
 use Rattle.nl_iface.specs.Device.{IsDeviceState, entry_with, state_of}
 use Rattle.nl_iface.specs.Left.{HoldsLive, HoldsStamp, LeavesPages}
 use Rattle.nl_iface.specs.Names.{IsNames, LivePage}
@@ -18,7 +17,7 @@ use Rattle.nl_pagemap.specs.Mapped.{Mapped, bytes_at, bytes_by, last_block, name
 use Rattle.nl_pagemap.specs.Stands.{IsEntry, IsMapped}
 use Rattle.nl_pagemap_names.specs.Table.{entry_at, entry_in, live_at, live_in}
 use Rattle.nl_pagemap_names.specs.declared.entry.Entry.{Entry}
-use Rattle.nl_pseg_pages.specs.Pages.{main_of, shown_by}
+use Rattle.nl_pseg_pages.specs.Pages.{main_of}
 use Rattle.nl_vseg.specs.Places.{map_of, place_of, stamp_for, stamp_in_place, value_at}
 use Rattle.nl_vseg.specs.declared.place.Place.{Place}
 

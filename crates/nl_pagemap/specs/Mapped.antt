@@ -2,7 +2,7 @@
 use Rattle.std.specs.Prelude.{ℕ, ◌-◌, ◌*◌, true, List, [], count_by, Option, Some, None, is_some, option_map}
 use Rattle.std.specs.List.{range_with_len}
 use Rattle.nl_field.specs.Medium.{first_physical}
-use Rattle.nl_field.specs.Page.{Image, Page, page_at}
+use Rattle.nl_field.specs.Page.{Image, page_at}
 use Rattle.nl_field.specs.declared.shape.Shape.{Shape}
 use Rattle.nl_iface.specs.Names.{LivePage, Names}
 use Rattle.nl_iface.specs.Space.{Space}

@@ -24,7 +24,13 @@ struct Parts {
 }
 
 /// A segment without an address, and a table without a number in use.
-fn fresh_parts(alloc: Global, shape: &Shape, first: u32, last: u32, count: u32) -> Result<Parts, Memory>
+fn fresh_parts(
+    alloc: Global,
+    shape: &Shape,
+    first: u32,
+    last: u32,
+    count: u32,
+) -> Result<Parts, Memory>
     requires legal { IsTrue (is_legal shape.now.blocks shape.now.pages) }
     requires numbers { shape.now ≡ shape_for shape.now.blocks shape.now.pages }
     ensures places { IfOk result (λ p. p.vseg.places ≡ replicate shape.now.vaddrs None) }

@@ -1,5 +1,5 @@
-use Rattle.std.proofs.Common.{◌≡◌, ◌+◌, ◌<◌, ◌≤◌, refl, arith, ◌∙◌, ap, sym, subst}
-use Rattle.nl_pagemap.specs.Mapped.{Mapped, live_among, page_live, seen}
+use Rattle.std.proofs.Common.{◌+◌, refl, arith, ◌∙◌, ap, sym, subst}
+use Rattle.nl_pagemap.specs.Mapped.{live_among, page_live, seen}
 use Rattle.nl_pagemap.specs.Placing.{dropped}
 use Rattle.nl_pagemap.specs.Stands.{IsMapped}
 use Rattle.nl_pagemap.proofs.Dropped.{count_dropped, dropped_mapped, dropped_within, led_entry, live_dropped}

@@ -1,11 +1,9 @@
-use Rattle.std.proofs.Common.{◌≡◌, ℕ, ◌+◌, ◌-◌, ◌<◌, ◌≤◌, length, set, Some, inl, inr, refl, sym, ◌∙◌, ap, subst, arith, Option}
-use Rattle.nl_field.specs.CrashStates.{saturated}
-use Rattle.nl_iface.specs.Names.{LivePage}
+use Rattle.std.proofs.Common.{◌≡◌, ◌+◌, ◌-◌, ◌<◌, length, Some, inl, inr, refl, sym, ◌∙◌, ap, subst, arith}
 use Rattle.nl_nand.specs.Nand.{ticked}
 use Rattle.nl_nand.specs.declared.answers.WriteAnswer.{WriteAnswer}
 use Rattle.nl_nand.specs.declared.geometry.Geometry.{Geometry}
 use Rattle.nl_pagemap.specs.Mapped.{Mapped, bytes_at, live_among, named_at, page_live, seen, stored_in}
-use Rattle.nl_pagemap.specs.Placing.{IsProgrammed, dropped, next_entry, placed, spent}
+use Rattle.nl_pagemap.specs.Placing.{IsProgrammed, dropped, next_entry, placed}
 use Rattle.nl_pagemap.specs.Stands.{IsMapped}
 use Rattle.nl_pagemap.proofs.Failures.{done_faults, done_stamp, earlier, failed_faults, failed_stamp}
 use Rattle.nl_pagemap.proofs.Programmed.{not_both}
@@ -13,7 +11,7 @@ use Rattle.std.proofs.lemmas.List.{length-set}
 use Rattle.nl_pagemap.proofs.Dropped.{dropped_within, led_entry}
 use Rattle.nl_pagemap.proofs.Numbers.{within}
 use Rattle.nl_pagemap.proofs.Over.{count_over, live_over, over_mapped}
-use Rattle.nl_pagemap.proofs.Placed.{bytes_here, bytes_kept, count_now, is_new, left_with, live_now, map_now, named_other, placed_mapped, stays, wrote}
+use Rattle.nl_pagemap.proofs.Placed.{bytes_here, bytes_kept, is_new, left_with, map_now, named_other, stays, wrote}
 use Rattle.nl_pagemap.proofs.Wasted.{fails, left_without, wasted_bytes, wasted_map, wasted_mapped}
 use Rattle.nl_pagemap_names.specs.Table.{Table, given, live_at, released}
 use Rattle.nl_pagemap_names.specs.declared.entry.Entry.{Entry}

@@ -1,18 +1,16 @@
-use Rattle.std.proofs.Common.{◌≡◌, ℕ, ◌+◌, ◌-◌, ◌<◌, ◌≤◌, length, inl, inr, refl, sym, ◌∙◌, ap, subst, arith, Option}
-use Rattle.nl_field.specs.CrashStates.{saturated}
-use Rattle.nl_iface.specs.Names.{LivePage}
+use Rattle.std.proofs.Common.{◌≡◌, ◌+◌, ◌<◌, length, inl, inr, refl, sym, ◌∙◌, ap, subst, arith}
 use Rattle.nl_nand.specs.Nand.{ticked}
 use Rattle.nl_nand.specs.declared.answers.WriteAnswer.{WriteAnswer}
 use Rattle.nl_nand.specs.declared.geometry.Geometry.{Geometry}
 use Rattle.nl_pagemap.specs.Mapped.{Mapped, bytes_at, live_among, named_at, page_live, seen, stored_in}
-use Rattle.nl_pagemap.specs.Placing.{IsProgrammed, next_entry, placed, spent}
+use Rattle.nl_pagemap.specs.Placing.{IsProgrammed, next_entry, placed}
 use Rattle.nl_pagemap.specs.Stands.{IsMapped}
 use Rattle.nl_pagemap.proofs.Failures.{done_faults, done_stamp, earlier, failed_faults, failed_stamp}
 use Rattle.nl_pagemap.proofs.Programmed.{not_both}
 use Rattle.nl_pagemap.proofs.Numbers.{within}
 use Rattle.nl_pagemap.proofs.Placed.{bytes_here, bytes_kept, count_now, is_new, left_with, live_now, map_now, named_other, placed_mapped, stays, wrote}
 use Rattle.nl_pagemap.proofs.Wasted.{fails, left_without, wasted_bytes, wasted_map, wasted_mapped}
-use Rattle.nl_pagemap_names.specs.Table.{Table, given}
+use Rattle.nl_pagemap_names.specs.Table.{given}
 use Rattle.nl_vseg.specs.Places.{map_of, stamp_for}
 use Rattle.nl_vseg.specs.Segment.{SegmentHasUnmapped}
 use Rattle.nl_pagemap.proofs.named_pages.PagemapNamedPages.nameless_write.Goals as goal

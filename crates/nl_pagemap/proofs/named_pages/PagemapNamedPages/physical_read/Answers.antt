@@ -1,18 +1,17 @@
-use Rattle.std.proofs.Common.{rules, ◌≡◌, ◌⊎◌, inl, inr, ⊎_elim, ◌+◌, ◌*◌, ◌<◌, ◌≤◌, ◌^◌, Option, Some, option_map, refl, sym, ◌∙◌, ap, subst, arith}
+use Rattle.std.proofs.Common.{rules, ◌≡◌, ◌+◌, ◌*◌, Option, Some, option_map, refl, sym, ◌∙◌, ap, subst, arith}
 use Rattle.nl_field.specs.CrashStates.{saturated}
 use Rattle.nl_field.specs.Page.{Image, page_at}
 use Rattle.nl_iface.specs.Found.{IsUnderTag}
-use Rattle.nl_iface.specs.Names.{LivePage, has_tag}
-use Rattle.nl_iface.specs.Stored.{NamedPage}
+use Rattle.nl_iface.specs.Names.{has_tag}
 use Rattle.nl_nand.specs.declared.geometry.Geometry.{Geometry}
 use Rattle.nl_pagemap.specs.Laws.{live_entry}
-use Rattle.nl_pagemap.specs.Mapped.{Mapped, bytes_by, named_by, page_of, seen, stored_in}
+use Rattle.nl_pagemap.specs.Mapped.{bytes_by, named_by, page_of, seen, stored_in}
 use Rattle.nl_pagemap.specs.Stands.{IsMapped}
 use Rattle.nl_pagemap.proofs.Found.{finds_either, finds_page, led_not, loses, not_lost, read_counted, under_other}
 use Rattle.nl_pagemap.proofs.Programmed.{spelled}
-use Rattle.nl_pagemap_names.specs.Table.{entry_at, live_at}
+use Rattle.nl_pagemap_names.specs.Table.{entry_at}
 use Rattle.nl_pagemap_names.specs.declared.entry.Entry.{Entry}
-use Rattle.nl_pseg_pages.specs.Pages.{main_of, shown_by}
+use Rattle.nl_pseg_pages.specs.Pages.{main_of}
 use Rattle.nl_vseg.specs.Places.{map_of}
 use Rattle.nl_pagemap.proofs.named_pages.PagemapNamedPages.physical_read.Goals as goal
 

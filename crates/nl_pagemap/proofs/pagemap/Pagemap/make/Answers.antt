@@ -1,5 +1,5 @@
 use Rattle.std.proofs.Common.{◌-◌, ◌*◌, refl, sym, subst, ap, ◌∙◌}
-use Rattle.nl_pagemap.specs.Mapped.{Mapped, page_live}
+use Rattle.nl_pagemap.specs.Mapped.{page_live}
 use Rattle.nl_pagemap.specs.Stands.{IsMapped}
 use Rattle.nl_pagemap.proofs.Fresh.{fresh, fresh_mapped, fresh_room, no_stamp, none_live}
 use Rattle.nl_pagemap_names.specs.Table.{Table}

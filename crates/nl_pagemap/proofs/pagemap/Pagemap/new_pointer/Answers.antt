@@ -1,4 +1,4 @@
-use Rattle.std.proofs.Common.{◌≡◌, ◌≤◌, refl, subst, arith}
+use Rattle.std.proofs.Common.{◌≤◌, refl, subst}
 use Rattle.nl_pagemap.proofs.Numbers.{some_free}
 use Rattle.nl_pagemap.proofs.pagemap.Pagemap.new_pointer.Goals as goal
 

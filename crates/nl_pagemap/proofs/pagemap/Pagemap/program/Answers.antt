@@ -1,4 +1,4 @@
-use Rattle.std.proofs.Common.{◌≡◌, ◌+◌, ◌∙◌, ap, refl, sym, subst, Some, arith, ◌<◌, ◌≤◌}
+use Rattle.std.proofs.Common.{◌≡◌, ◌∙◌, ap, refl, subst, Some, arith}
 use Rattle.nl_field.specs.Page.{PageBytes, written}
 use Rattle.nl_pagemap.proofs.Programmed.{can_program, inside, next_within, outside, spelled}
 use Rattle.nl_pagemap.proofs.pagemap.Pagemap.program.Goals as goal

@@ -2,7 +2,7 @@ use Rattle.std.proofs.Common.{◌≡◌, ◌+◌, ◌∙◌, refl, sym, ap, subs
 use Rattle.nl_field.specs.CrashStates.{saturated}
 use Rattle.nl_field.specs.Page.{Image}
 use Rattle.nl_nand.specs.declared.geometry.Geometry.{Geometry}
-use Rattle.nl_pagemap.specs.Mapped.{Mapped, bytes_by, bytes_at, seen, stored_in}
+use Rattle.nl_pagemap.specs.Mapped.{Mapped, bytes_by, seen, stored_in}
 use Rattle.nl_pagemap.specs.Stands.{IsMapped}
 use Rattle.nl_pagemap.proofs.Found.{finds_stamp, read_counted}
 use Rattle.nl_pagemap.proofs.Written.{fits}

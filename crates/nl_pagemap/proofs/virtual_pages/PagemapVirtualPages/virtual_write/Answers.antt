@@ -1,10 +1,10 @@
-use Rattle.std.proofs.Common.{◌≡◌, ◌⊎◌, inl, inr, ⊎_elim, ℕ, ◌+◌, ◌≤◌, ◌<◌, ◌^◌, Option, refl, sym, ◌∙◌, ap, subst, arith}
+use Rattle.std.proofs.Common.{◌≡◌, inl, inr, ⊎_elim, ℕ, ◌+◌, ◌≤◌, Option, refl, sym, ◌∙◌, ap, subst, arith}
 use Rattle.nl_field.specs.CrashStates.{Rose, saturated}
-use Rattle.nl_field.specs.Page.{Image, page_at}
+use Rattle.nl_field.specs.Page.{page_at}
 use Rattle.nl_field.specs.declared.answers.VirtualWrite.TheVariants as write
-use Rattle.nl_iface.specs.Stored.{Stored, Value, failed_beside, with_value}
+use Rattle.nl_iface.specs.Stored.{Value, failed_beside, with_value}
 use Rattle.nl_nand.specs.declared.geometry.Geometry.{Geometry}
-use Rattle.nl_pagemap.specs.Mapped.{Mapped, seen, stored_in}
+use Rattle.nl_pagemap.specs.Mapped.{seen, stored_in}
 use Rattle.nl_pagemap.specs.Stands.{IsMapped}
 use Rattle.nl_pagemap.proofs.Failures.{more_in_all, rose_in_all}
 use Rattle.nl_pagemap.proofs.Programmed.{spelled}
