@@ -1,0 +1,12 @@
+pub mod Counted
+pub mod Dropped
+pub mod Failures
+pub mod Found
+pub mod Fresh
+pub mod Images
+pub mod Numbers
+pub mod Over
+pub mod Placed
+pub mod Programmed
+pub mod Wasted
+pub mod Written

@@ -1,0 +1,107 @@
+-- Which numbers can be given out, and how many are in use.
+use Rattle.std.proofs.Common.{◌≡◌, ℕ, ◌+◌, ◌-◌, ◌*◌, ◌<◌, ◌≤◌, ◌==◌, if◌then◌else◌, Bool, true, false, Option, Some, None, is_some, option_map, length, refl, sym, ◌∙◌, ap, arith, eq-eqb, ne_eqb}
+use Rattle.std.proofs.lemmas.Bool.{cond-false, cond-true}
+use Rattle.std.proofs.lemmas.List.{length-set}
+use Rattle.nl_field.specs.Medium.{first_physical}
+use Rattle.nl_field.specs.declared.shape.Shape.{Shape}
+use Rattle.nl_iface.specs.Names.{with_page, without_page}
+use Rattle.nl_nand.specs.declared.geometry.Geometry.{Geometry}
+use Rattle.nl_pagemap.specs.Mapped.{Mapped, live_among, page_live, page_of}
+use Rattle.nl_pagemap.specs.Stands.{HasNumbers, IsMapped}
+use Rattle.nl_pagemap.proofs.Counted.{many, one_more}
+use Rattle.nl_pagemap_names.specs.Table.{IsTable, Table, given, live_at, released}
+use Rattle.nl_pagemap_names.specs.declared.entry.Entry.{Entry}
+use Rattle.nl_pagemap_names.proofs.Changed.{given_live, released_live}
+
+is_live : (o : Option Entry) → (o ≡ None → ⊥) → is_some (option_map page_of o) ≡ true
+is_live None some = absurd (some refl)
+is_live (Some e) some = refl
+
+-- the numbers of the segment, and those of the last block
+pub segment_ends : {tells : Type 0} {geometry : Geometry} {s : Mapped} → IsMapped tells geometry s
+    → s.table.last + s.shape.pages ≡ first_physical s.shape + s.shape.pblocks * s.shape.pages
+segment_ends {tells} {geometry} {s} f =
+    let last = f.numbers.last in
+    let all : (s.shape.vblocks + s.shape.pblocks) * s.shape.pages ≡ s.shape.blocks * s.shape.pages = ap (λ n. n * s.shape.pages) f.bounds.segments in
+    let parts : (s.shape.vblocks + s.shape.pblocks) * s.shape.pages ≡ s.shape.vblocks * s.shape.pages + s.shape.pblocks * s.shape.pages = omega arith in
+    omega (arith, last, all, parts)
+
+-- Where pages can be programmed, fewer numbers are in use than can be given out.
+pub some_free : {tells : Type 0} {geometry : Geometry} {s : Mapped} → IsMapped tells geometry s → 0 < s.room
+    → ((n : ℕ) → s.table.first ≤ n → n < s.table.last → live_at s.table n ≡ None → ⊥) → ⊥
+some_free {tells} {geometry} {s} f room none =
+    let first = f.numbers.first in
+    let last = f.numbers.last in
+    let from = f.from in
+    let ends = segment_ends f in
+    let fit = f.room in
+    let few = f.few in
+    let count = f.count in
+    let span : first_physical s.shape + (s.table.last - first_physical s.shape) ≡ s.table.last = omega (arith, from, fit, last, room) in
+    let used = many (λ n. is_some (page_live s.table n)) (first_physical s.shape) (s.table.last - first_physical s.shape) (s.shape.pblocks * s.shape.pages)
+    (λ k low high. is_live (live_at s.table k) (none k (omega (arith, low, first)) (omega (arith, high, span))))
+    (omega (arith, ends, span)) in
+    omega (arith, used, count, few, fit, last, room, from, span)
+
+-- a number that can be given out has its entry, and lies in the segment
+pub within : {tells : Type 0} {geometry : Geometry} {s : Mapped} → IsMapped tells geometry s → (n : ℕ) → n < s.table.last → n < length s.table.entries
+within {tells} {geometry} {s} f n below = let last = f.numbers.last in let count = f.numbers.count in omega (arith, below, last, count)
+
+pub in_segment : {tells : Type 0} {geometry : Geometry} {s : Mapped} → IsMapped tells geometry s → (n : ℕ) → n < s.table.last
+    → n < first_physical s.shape + s.shape.pblocks * s.shape.pages
+in_segment {tells} {geometry} {s} f n below = let ends = segment_ends f in omega (arith, below, ends)
+
+-- the live pages with one more
+pub live_with : (t : Table) → IsTable t → (n : ℕ) → n < length t.entries → (e : Entry) (q : ℕ)
+    → page_live (given n e t) q ≡ with_page (λ r. page_live t r) n (page_of e) q
+live_with t f n below e q =
+    ap (λ (o : Option Entry). option_map page_of o) (given_live t f n below e q) ∙ by (q == n)
+  where
+    by : (b : Bool) → option_map page_of (if b then Some e else live_at t q) ≡ (if b then Some (page_of e) else page_live t q)
+    by true = refl
+    by false = refl
+
+-- with one less
+pub live_without : (t : Table) → IsTable t → (n : ℕ) → n < length t.entries → (q : ℕ)
+    → page_live (released n t) q ≡ without_page (λ r. page_live t r) n q
+live_without t f n below q =
+    ap (λ (o : Option Entry). option_map page_of o) (released_live t f n below q) ∙ by (q == n)
+  where
+    by : (b : Bool) → option_map page_of (if b then None else live_at t q) ≡ (if b then None else page_live t q)
+    by true = refl
+    by false = refl
+
+-- one number more is in use
+pub count_with : (shape : Shape) (t : Table) → IsTable t → (n : ℕ) → n < length t.entries → (e : Entry) → first_physical shape ≤ n
+    → n < first_physical shape + shape.pblocks * shape.pages → live_at t n ≡ None → live_among shape (given n e t) ≡ live_among shape t + 1
+count_with shape t f n below e from to unused =
+    one_more (λ q. is_some (page_live t q)) (λ q. is_some (page_live (given n e t) q)) n (first_physical shape) (shape.pblocks * shape.pages) from to
+    (ap (λ (o : Option Entry). is_some (option_map page_of o)) unused)
+    (ap is_some (live_with t f n below e n ∙ cond-true (n == n) (Some (page_of e)) (page_live t n) (eq-eqb n n refl)))
+    (λ q off. ap is_some (live_with t f n below e q ∙ cond-false (q == n) (Some (page_of e)) (page_live t q) (ne_eqb q n off)))
+
+-- one less
+pub count_without : (shape : Shape) (t : Table) → IsTable t → (n : ℕ) → n < length t.entries → (e : Entry) → first_physical shape ≤ n
+    → n < first_physical shape + shape.pblocks * shape.pages → live_at t n ≡ Some e → live_among shape (released n t) + 1 ≡ live_among shape t
+count_without shape t f n below e from to live =
+    sym (one_more (λ q. is_some (page_live (released n t) q)) (λ q. is_some (page_live t q)) n (first_physical shape) (shape.pblocks * shape.pages) from to
+    (ap is_some (live_without t f n below n ∙ cond-true (n == n) None (page_live t n) (eq-eqb n n refl)))
+    (ap (λ (o : Option Entry). is_some (option_map page_of o)) live)
+    (λ q off. sym (ap is_some (live_without t f n below q ∙ cond-false (q == n) None (page_live t q) (ne_eqb q n off)))))
+
+-- the table has its numbers still
+pub numbers_with : (shape : Shape) (t : Table) (n : ℕ) (e : Entry) → HasNumbers shape t → HasNumbers shape (given n e t)
+numbers_with shape t n e has = record {
+  table = record { same = length-set t.used n true ∙ (has.table.same ∙ sym (length-set t.entries n (Some e))) };
+  count = length-set t.entries n (Some e) ∙ has.count;
+  first = has.first;
+  last = has.last;
+}
+
+pub numbers_without : (shape : Shape) (t : Table) (n : ℕ) → HasNumbers shape t → HasNumbers shape (released n t)
+numbers_without shape t n has = record {
+  table = record { same = length-set t.used n false ∙ has.table.same };
+  count = has.count;
+  first = has.first;
+  last = has.last;
+}

@@ -1,0 +1,263 @@
+use Rattle.std.proofs.Common.{◌≡◌, ◌+◌, ◌-◌, ◌<◌, length, Some, inl, inr, refl, sym, ◌∙◌, ap, subst, arith}
+use Rattle.nl_nand.specs.Nand.{ticked}
+use Rattle.nl_nand.specs.declared.answers.WriteAnswer.{WriteAnswer}
+use Rattle.nl_nand.specs.declared.geometry.Geometry.{Geometry}
+use Rattle.nl_pagemap.specs.Mapped.{Mapped, bytes_at, live_among, named_at, page_live, seen, stored_in}
+use Rattle.nl_pagemap.specs.Placing.{IsProgrammed, dropped, next_entry, placed}
+use Rattle.nl_pagemap.specs.Stands.{IsMapped}
+use Rattle.nl_pagemap.proofs.Failures.{done_faults, done_stamp, earlier, failed_faults, failed_stamp}
+use Rattle.nl_pagemap.proofs.Programmed.{not_both}
+use Rattle.std.proofs.lemmas.List.{length-set}
+use Rattle.nl_pagemap.proofs.Dropped.{dropped_within, led_entry}
+use Rattle.nl_pagemap.proofs.Numbers.{within}
+use Rattle.nl_pagemap.proofs.Over.{count_over, live_over, over_mapped}
+use Rattle.nl_pagemap.proofs.Placed.{bytes_here, bytes_kept, is_new, left_with, map_now, named_other, stays, wrote}
+use Rattle.nl_pagemap.proofs.Wasted.{fails, left_without, wasted_bytes, wasted_map, wasted_mapped}
+use Rattle.nl_pagemap_names.specs.Table.{Table, given, live_at, released}
+use Rattle.nl_pagemap_names.specs.declared.entry.Entry.{Entry}
+use Rattle.nl_vseg.specs.Places.{map_of, stamp_for}
+use Rattle.nl_vseg.specs.Segment.{SegmentHasUnmapped}
+use Rattle.nl_pagemap.proofs.named_pages.PagemapNamedPages.nameless_overwrite.Goals as goal
+
+pub give-requires : goal.give-requires
+give-requires g c =
+    subst (λ (x : Mapped). c.new_pointer-at.result.name < length x.table.entries) (sym c.program.ensures.spends)
+    (within c.requires.formed c.new_pointer-at.result.name c.new_pointer-at.ensures.below)
+
+pub release-requires : goal.release-requires
+release-requires g c =
+    let d = c.args.self.now in
+    let e = c.program.ensures in
+    let at = c.new_pointer-at.result in
+    let was = led_entry (live_at d.table c.args.old.name) c.args.old.stamp (sym c.leads.ensures ∙ c.if-not-leads.false) in
+    let entry : Entry = record { page = d.head; tag = c.args.tag; stamp = at.stamp } in
+    subst (λ (x : Table). c.args.old.name < length x.entries) (sym (c.give.ensures ∙ (λ i. given at.name entry (e.spends i).table)))
+    (subst (λ k. c.args.old.name < k) (sym (length-set d.table.entries at.name (Some entry)))
+    (dropped_within (seen g.M.Nand.contents d) c.requires.formed c.args.old.name was.0 was.1))
+
+pub returns-then-self-eq0-clause-left : goal.returns-then-self-eq0-clause-left
+returns-then-self-eq0-clause-left g c told = record {
+  stops = record { later = omega arith; each = λ m x left. inl left };
+  now = inl ((λ no. no), stays c.requires.formed told _);
+}
+
+pub returns-then-not-leads-clause-left : goal.returns-then-not-leads-clause-left
+returns-then-not-leads-clause-left g c told = record {
+  stops = record { later = omega arith; each = λ m x left. inl left };
+  now = inl ((λ no. no), stays c.requires.formed told _);
+}
+
+-- ---- the program failed
+
+pub returns-in-Failed-clause-formed : goal.returns-in-Failed-clause-formed
+returns-in-Failed-clause-formed g c =
+    let d = c.args.self.now in
+    let s = seen g.M.Nand.contents d in
+    let e = c.program.ensures in
+    let image = g.M.Nand.contents c.program.new.self.media in
+    subst (λ (x : Geometry). IsMapped g.M.Nand.tells x (seen g.M.Nand.contents c.program.new.self)) (sym e.counted.same_geometry)
+    (subst (λ (x : Mapped). IsMapped g.M.Nand.tells (g.M.Nand.geometry d.media) x) (sym e.spends)
+    (wasted_mapped s image c.requires.formed (omega (arith, c.if-self-eq0.false)) c.requires.stamp e.others))
+
+pub returns-in-Failed-clause-none : goal.returns-in-Failed-clause-none
+returns-in-Failed-clause-none g c unplaced =
+    let s = seen g.M.Nand.contents c.args.self.now in
+    let e = c.program.ensures in
+    record {
+      tables = record { live = λ q. ap (λ (x : Mapped). page_live x.table q) e.spends; pairs = refl; pending = refl; handled = λ n. refl; posted = refl };
+      fault = fails s (seen g.M.Nand.contents c.program.new.self) (omega (arith, c.if-self-eq0.false)) (ap (λ (x : Mapped). x.shape) e.spends) (ap (λ (x : Mapped). x.room) e.spends) (ap (λ (x : Mapped). x.table) e.spends);
+    }
+
+pub returns-in-Failed-clause-left : goal.returns-in-Failed-clause-left
+returns-in-Failed-clause-left g c told =
+    let s = seen g.M.Nand.contents c.args.self.now in
+    let e = c.program.ensures in
+    let image = g.M.Nand.contents c.program.new.self.media in
+    let later = e.later in
+    record {
+      stops = record {
+        later = later;
+        each = λ m x left. let now = left.0 in inr (omega (arith, later, now), omega (arith, now), inl ((λ no. absurd no), left_without s image c.requires.formed (omega (arith, c.if-self-eq0.false)) c.requires.stamp e.others told _ x (left.1 ∙ ap stored_in e.spends)));
+      };
+      now = inl ((λ no. no), left_without s image c.requires.formed (omega (arith, c.if-self-eq0.false)) c.requires.stamp e.others told _ (stored_in (seen g.M.Nand.contents c.program.new.self)) (ap stored_in e.spends));
+    }
+
+pub returns-in-Failed-clause-kept : goal.returns-in-Failed-clause-kept
+returns-in-Failed-clause-kept g c =
+    let s = seen g.M.Nand.contents c.args.self.now in
+    let e = c.program.ensures in
+    let image = g.M.Nand.contents c.program.new.self.media in
+    let room : 0 < s.room = omega (arith, c.if-self-eq0.false) in
+    record {
+      virtual = record {
+        same_shape = ap (λ (x : Mapped). x.shape) e.spends;
+        same_stamps = λ v. ap (λ (x : Mapped). stamp_for x.vseg.places v) e.spends;
+        same_map = λ told v. ap (λ (x : Mapped). map_of x.vseg.places x.image v) e.spends ∙ wasted_map s image c.requires.formed room c.requires.stamp e.others told v;
+        no_failed = λ told v x no. no;
+        spare = λ k. subst (λ (x : Mapped). SegmentHasUnmapped x.vseg) (sym e.spends) k;
+      };
+      bytes = λ told q page live. ap (λ (x : Mapped). bytes_at x q) e.spends ∙ wasted_bytes s image c.requires.formed room c.requires.stamp e.others told q;
+      clean = λ k. k;
+      read_faults = e.counted.same_read_faults;
+    }
+
+pub returns-in-Failed-clause-next_stamp : goal.returns-in-Failed-clause-next_stamp
+returns-in-Failed-clause-next_stamp g c =
+    let e = c.program.ensures in
+    failed_stamp _ _ _ _ _ _ _ _ _ tt (ap (λ (x : Mapped). x.next) e.spends) e.later e.refused (e.counted.failures.cause c.in-Failed.is)
+
+pub returns-in-Failed-clause-counts : goal.returns-in-Failed-clause-counts
+returns-in-Failed-clause-counts g c =
+    let d = c.args.self.now in
+    let e = c.program.ensures in
+    let spent_room = ap (λ (x : Mapped). x.room) e.spends in
+    record {
+      faults = failed_faults _ _ _ _ _ _ e.refused (e.counted.failures.cause c.in-Failed.is) refl;
+      ticks = record { clock = e.later; later = λ done. absurd done };
+      clean_ticks = λ clean done. absurd done;
+      clean_stays = λ clean no. e.counted.ticks ∙ ap (λ (a : WriteAnswer). ticked (g.M.Nand.clock d.media) a) c.in-Failed.is;
+      clean_fault = λ clean. omega (arith, spent_room, c.if-self-eq0.false);
+      clean_kept = λ clean. refl;
+    }
+
+-- ---- the page is placed, and the old one is gone
+
+pub returns-in-Done-clause-formed : goal.returns-in-Done-clause-formed
+returns-in-Done-clause-formed g c =
+    let d = c.args.self.now in
+    let s = seen g.M.Nand.contents d in
+    let e = c.program.ensures in
+    let f = c.requires.formed in
+    let tag = c.args.tag in
+    let main = c.args.from.now.main in
+    let image = g.M.Nand.contents c.program.new.self.media in
+    let gone = c.args.old.name in
+    let at = c.new_pointer-at.result in
+    let n = c.new_pointer-at.ensures in
+    let room : 0 < s.room = omega (arith, c.if-self-eq0.false) in
+    let k : IsProgrammed g.M.Nand.tells tag main s image = record { others = e.others; holds = λ t. e.programmed t c.in-Done.is; shows = e.shows } in
+    let was = led_entry (live_at d.table gone) c.args.old.stamp (sym c.leads.ensures ∙ c.if-not-leads.false) in
+    let table : c.release.new.self ≡ released gone (given at.name (next_entry tag s) s.table) = c.release.ensures ∙ (ap (released gone) c.give.ensures ∙ (λ i. released gone (given at.name (record { page = d.head; tag = tag; stamp = n.stamp i }) (e.spends i).table))) in
+    let count : c.program.new.self.count ≡ s.count + 1 - 1 = ap (λ (x : Mapped). x.count) e.spends ∙ omega arith in
+    let t : Mapped = record (seen g.M.Nand.contents c.program.new.self) { table = c.release.new.self } in
+    let path : t ≡ dropped gone (placed at.name tag image s) = λ i. record (e.spends i) { table = table i; count = count i } in
+    subst (λ (x : Geometry). IsMapped g.M.Nand.tells x t) (sym e.counted.same_geometry)
+    (subst (λ (x : Mapped). IsMapped g.M.Nand.tells (g.M.Nand.geometry d.media) x) (sym path) (over_mapped at tag main s image f room c.requires.stamp n k gone was.0 was.1))
+
+pub returns-in-Done-clause-placed : goal.returns-in-Done-clause-placed
+returns-in-Done-clause-placed g c =
+    let d = c.args.self.now in
+    let s = seen g.M.Nand.contents d in
+    let e = c.program.ensures in
+    let f = c.requires.formed in
+    let tag = c.args.tag in
+    let main = c.args.from.now.main in
+    let image = g.M.Nand.contents c.program.new.self.media in
+    let gone = c.args.old.name in
+    let at = c.new_pointer-at.result in
+    let n = c.new_pointer-at.ensures in
+    let room : 0 < s.room = omega (arith, c.if-self-eq0.false) in
+    let k : IsProgrammed g.M.Nand.tells tag main s image = record { others = e.others; holds = λ t. e.programmed t c.in-Done.is; shows = e.shows } in
+    let was = led_entry (live_at d.table gone) c.args.old.stamp (sym c.leads.ensures ∙ c.if-not-leads.false) in
+    let table : c.release.new.self ≡ released gone (given at.name (next_entry tag s) s.table) = c.release.ensures ∙ (ap (released gone) c.give.ensures ∙ (λ i. released gone (given at.name (record { page = d.head; tag = tag; stamp = n.stamp i }) (e.spends i).table))) in
+    let count : c.program.new.self.count ≡ s.count + 1 - 1 = ap (λ (x : Mapped). x.count) e.spends ∙ omega arith in
+    let t : Mapped = record (seen g.M.Nand.contents c.program.new.self) { table = c.release.new.self } in
+    let path : t ≡ dropped gone (placed at.name tag image s) = λ i. record (e.spends i) { table = table i; count = count i } in
+    let left = ap (λ (x : Mapped). x.room) path in
+    let live = ap (λ (x : Mapped). live_among x.shape x.table) path in
+    let more = count_over at tag main s image f room c.requires.stamp n k gone was.0 was.1 in
+    record {
+      stamp = n.stamp;
+      is_new = is_new at tag main s image f room c.requires.stamp n k;
+      names = record {
+        live = λ q. ap (λ (x : Mapped). page_live x.table q) path ∙ live_over at tag main s image f room c.requires.stamp n k gone was.0 was.1 q;
+        pairs = refl;
+        pending = refl;
+        handled = λ x has. refl;
+        posted = refl;
+      };
+      space = wrote 1 s t (ap (λ (x : Mapped). x.shape) path) (omega (arith, left, room)) (omega (arith, live, more));
+      bytes = λ told. ap (λ (x : Mapped). bytes_at x at.name) path ∙ bytes_here at tag main s image f room c.requires.stamp n k told;
+      block = λ told none q off. inl (ap (λ (x : Mapped). named_at x q) path ∙ named_other at tag main s image f room c.requires.stamp n k told q off);
+    }
+
+pub returns-in-Done-clause-left : goal.returns-in-Done-clause-left
+returns-in-Done-clause-left g c told =
+    let d = c.args.self.now in
+    let s = seen g.M.Nand.contents d in
+    let e = c.program.ensures in
+    let f = c.requires.formed in
+    let tag = c.args.tag in
+    let main = c.args.from.now.main in
+    let image = g.M.Nand.contents c.program.new.self.media in
+    let gone = c.args.old.name in
+    let at = c.new_pointer-at.result in
+    let n = c.new_pointer-at.ensures in
+    let room : 0 < s.room = omega (arith, c.if-self-eq0.false) in
+    let k : IsProgrammed g.M.Nand.tells tag main s image = record { others = e.others; holds = λ t. e.programmed t c.in-Done.is; shows = e.shows } in
+    let was = led_entry (live_at d.table gone) c.args.old.stamp (sym c.leads.ensures ∙ c.if-not-leads.false) in
+    let table : c.release.new.self ≡ released gone (given at.name (next_entry tag s) s.table) = c.release.ensures ∙ (ap (released gone) c.give.ensures ∙ (λ i. released gone (given at.name (record { page = d.head; tag = tag; stamp = n.stamp i }) (e.spends i).table))) in
+    let count : c.program.new.self.count ≡ s.count + 1 - 1 = ap (λ (x : Mapped). x.count) e.spends ∙ omega arith in
+    let t : Mapped = record (seen g.M.Nand.contents c.program.new.self) { table = c.release.new.self } in
+    let path : t ≡ dropped gone (placed at.name tag image s) = λ i. record (e.spends i) { table = table i; count = count i } in
+    let later = e.later in
+    record {
+      stops = record {
+        later = later;
+        each = λ m x left. let now = left.0 in inr (omega (arith, later, now), omega (arith, now), inr (left_with at tag main s image f room c.requires.stamp n k told x (left.1 ∙ ap stored_in path)));
+      };
+      now = inr (left_with at tag main s image f room c.requires.stamp n k told (stored_in t) (ap stored_in path));
+    }
+
+pub returns-in-Done-clause-kept : goal.returns-in-Done-clause-kept
+returns-in-Done-clause-kept g c =
+    let d = c.args.self.now in
+    let s = seen g.M.Nand.contents d in
+    let e = c.program.ensures in
+    let f = c.requires.formed in
+    let tag = c.args.tag in
+    let main = c.args.from.now.main in
+    let image = g.M.Nand.contents c.program.new.self.media in
+    let gone = c.args.old.name in
+    let at = c.new_pointer-at.result in
+    let n = c.new_pointer-at.ensures in
+    let room : 0 < s.room = omega (arith, c.if-self-eq0.false) in
+    let k : IsProgrammed g.M.Nand.tells tag main s image = record { others = e.others; holds = λ t. e.programmed t c.in-Done.is; shows = e.shows } in
+    let was = led_entry (live_at d.table gone) c.args.old.stamp (sym c.leads.ensures ∙ c.if-not-leads.false) in
+    let table : c.release.new.self ≡ released gone (given at.name (next_entry tag s) s.table) = c.release.ensures ∙ (ap (released gone) c.give.ensures ∙ (λ i. released gone (given at.name (record { page = d.head; tag = tag; stamp = n.stamp i }) (e.spends i).table))) in
+    let count : c.program.new.self.count ≡ s.count + 1 - 1 = ap (λ (x : Mapped). x.count) e.spends ∙ omega arith in
+    let t : Mapped = record (seen g.M.Nand.contents c.program.new.self) { table = c.release.new.self } in
+    let path : t ≡ dropped gone (placed at.name tag image s) = λ i. record (e.spends i) { table = table i; count = count i } in
+    record {
+      virtual = record {
+        same_shape = ap (λ (x : Mapped). x.shape) path;
+        same_stamps = λ v. ap (λ (x : Mapped). stamp_for x.vseg.places v) path;
+        same_map = λ told v. ap (λ (x : Mapped). map_of x.vseg.places x.image v) path ∙ map_now at tag main s image f room c.requires.stamp n k told v;
+        no_failed = λ told v x no. no;
+        spare = λ q. subst (λ (x : Mapped). SegmentHasUnmapped x.vseg) (sym path) q;
+      };
+      bytes = λ told q page live. ap (λ (x : Mapped). bytes_at x q) path ∙ bytes_kept at tag main s image f room c.requires.stamp n k told q page live;
+      clean = λ q. q;
+      read_faults = e.counted.same_read_faults;
+    }
+
+pub returns-in-Done-clause-next_stamp : goal.returns-in-Done-clause-next_stamp
+returns-in-Done-clause-next_stamp g c =
+    let d = c.args.self.now in
+    let e = c.program.ensures in
+    let tick = e.counted.ticks ∙ ap (λ (a : WriteAnswer). ticked (g.M.Nand.clock d.media) a) c.in-Done.is in
+    done_stamp _ _ _ _ _ _ _ _ _ tt (ap (λ (x : Mapped). x.next) e.spends) tick e.refused (e.counted.failures.stays (not_both c.in-Done.is))
+
+pub returns-in-Done-clause-counts : goal.returns-in-Done-clause-counts
+returns-in-Done-clause-counts g c =
+    let d = c.args.self.now in
+    let e = c.program.ensures in
+    let tick = e.counted.ticks ∙ ap (λ (a : WriteAnswer). ticked (g.M.Nand.clock d.media) a) c.in-Done.is in
+    record {
+      faults = done_faults _ _ _ _ _ _ e.refused (e.counted.failures.stays (not_both c.in-Done.is)) (λ is. cc);
+      ticks = record { clock = e.later; later = λ done. earlier (g.M.Nand.clock d.media) tick };
+      clean_ticks = λ clean done. tick;
+      clean_stays = λ clean no. absurd (no tt);
+      clean_fault = λ clean. tt;
+      clean_kept = λ clean. refl;
+    }

@@ -1,0 +1,5 @@
+pub mod Laws
+pub mod Made
+pub mod Mapped
+pub mod Placing
+pub mod Stands

@@ -1,0 +1,13 @@
+//! A page-mapped device over a flash medium: pages by virtual address, and pages under numbers that never change. A table in memory
+//! leads each number to the page of the medium that it has.
+#![tactic(auto)]
+
+mod counts;
+mod making;
+mod moving_pages;
+mod named_pages;
+mod pagemap;
+mod placing;
+mod virtual_pages;
+
+pub use pagemap::Pagemap;
