@@ -37,9 +37,9 @@ fn breaks_off<Rt: Threads + Wait + Sync>(
     right
 }
 
-// The volume holds all of the saving. The text has 14 lines, and each is one write.
+// The volume holds all of the saving. The text is two writes: the line of the opening, and the 13 lines of the answers.
 fn writes_right<Rt: Threads + Wait + Sync>(rig: &mut Rig<'_, Rt>) -> Result<bool, Memory> {
-    for write in 1..=14u64 {
+    for write in 1..=2u64 {
         if !rig.play(&[FORMAT])? || !breaks_off(rig, write)? || !holds(rig, 13, 13, false)? {
             return rig.note_run(write);
         }
