@@ -16,10 +16,7 @@ pub(crate) fn entry_in(page: &PageBuf, slot: u32) -> EntryRec
     requires there { IsSome (entry_of (slot_in 64 slot page.now.main)) }
     ensures { entry_of (slot_in 64 slot page.now.main) ≡ Some result }
 {
-    match EntryRec::of(page, 64 * slot) {
-        Some(entry) => entry,
-        None => unreachable!(),
-    }
+    EntryRec::spelled_at(page, 64 * slot)
 }
 
 // The first of so many slots from the front whose entry has the name.

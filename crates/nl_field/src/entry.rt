@@ -26,6 +26,16 @@ impl EntryRec {
         read(&page.main()[at..at + 64])
     }
 
+    /// The record that 64 main bytes from an offset on spell that spell one. It looks at nothing but the record.
+    pub fn spelled_at(page: &PageBuf, at: u32) -> EntryRec
+        requires inside { at + 64 ≤ 4096 }
+        requires spelled { IsSome (entry_of (take 64 (drop at page.now.main))) }
+        ensures { entry_of (take 64 (drop at page.now.main)) ≡ Some result }
+    {
+        let at = at as usize;
+        spelled(&page.main()[at..at + 64])
+    }
+
     /// Writes the record's one spelling over the 64 main bytes from an offset on.
     pub fn into_page(&self, page: &mut PageBuf, at: u32)
         requires { at + 64 ≤ 4096 }
@@ -68,6 +78,18 @@ fn read(bytes: &[u8]) -> Option<EntryRec>
     ensures reads { Decodes fits_entry is_entry entry_bytes bytes.now result }
 {
     decode(bytes)
+}
+
+#[tactic(auto, unfolding(crate::specs::EntryRecord::entry_of))]
+fn spelled(bytes: &[u8]) -> EntryRec
+    requires length { length bytes.now ≡ 64 }
+    requires spelled { IsSome (entry_of bytes.now) }
+    ensures { entry_of bytes.now ≡ Some result }
+{
+    match fields(bytes) {
+        Some(rec) => rec,
+        None => unreachable!(),
+    }
 }
 
 #[tactic(auto, unfolding(crate::specs::EntryRecord::entry_of))]

@@ -1,5 +1,5 @@
 //! The record of a node in 256 bytes of a page: read from them, and written to them.
-ghost use Rattle.std.specs.Prelude.{◌≡◌, ◌≤◌, ◌+◌, ◌++◌, ◌==◌, not, IsTrue, Some, length, take, drop, bytes_eq};
+ghost use Rattle.std.specs.Prelude.{◌≡◌, ◌≤◌, ◌+◌, ◌++◌, ◌==◌, not, IsTrue, IsSome, Some, length, take, drop, bytes_eq};
 ghost use Rattle.std.specs.List.{list_all};
 ghost use Rattle.nl_field.specs.Bytes.{all_zero};
 ghost use Rattle.nl_field.specs.Spelling.{Decodes};
@@ -42,6 +42,16 @@ impl InodeRec {
     {
         let at = at as usize;
         read(&page.main()[at..at + 256])
+    }
+
+    /// The record that 256 main bytes from an offset on spell that spell one. It looks at nothing but the record.
+    pub fn spelled_at(page: &PageBuf, at: u32) -> InodeRec
+        requires inside { at + 256 ≤ 4096 }
+        requires spelled { IsSome (inode_of (take 256 (drop at page.now.main))) }
+        ensures { inode_of (take 256 (drop at page.now.main)) ≡ Some result }
+    {
+        let at = at as usize;
+        spelled(&page.main()[at..at + 256])
     }
 
     /// Writes the record's one spelling over the 256 main bytes from an offset on. An unused node has nothing but its
@@ -104,6 +114,15 @@ fn read(bytes: &[u8]) -> Option<InodeRec>
     ensures reads { Decodes fits_inode is_inode inode_bytes bytes.now result }
 {
     decode(bytes)
+}
+
+#[tactic(auto, unfolding(crate::specs::Inode::inode_of))]
+fn spelled(bytes: &[u8]) -> InodeRec
+    requires length { length bytes.now ≡ 256 }
+    requires spelled { IsSome (inode_of bytes.now) }
+    ensures { inode_of bytes.now ≡ Some result }
+{
+    fields(bytes)
 }
 
 #[tactic(auto, unfolding(crate::specs::Inode::inode_of))]

@@ -1,5 +1,5 @@
 //! Pointers to pages under names: written to a page, and read from one.
-ghost use Rattle.std.specs.Prelude.{◌≡◌, ◌≤◌, ◌+◌, ◌++◌, IsTrue, Some, length, take, drop, bytes_eq};
+ghost use Rattle.std.specs.Prelude.{◌≡◌, ◌≤◌, ◌+◌, ◌++◌, IsTrue, IsSome, Some, length, take, drop, bytes_eq};
 ghost use Rattle.nl_field.specs.Spelling.{Decodes};
 ghost use Rattle.nl_field.specs.Pointers.{pointer_bytes, pointer_of, is_pointer, is_none_pointer, fits_pointer};
 
@@ -32,6 +32,16 @@ impl Pointer {
     {
         let at = at as usize;
         read(&page.main()[at..at + 16])
+    }
+
+    /// The pointer that 16 main bytes from an offset on spell that spell one. It looks at nothing but the pointer.
+    pub fn spelled_at(page: &PageBuf, at: u32) -> Pointer
+        requires inside { at + 16 ≤ 4096 }
+        requires spelled { IsSome (pointer_of (take 16 (drop at page.now.main))) }
+        ensures { pointer_of (take 16 (drop at page.now.main)) ≡ Some result }
+    {
+        let at = at as usize;
+        spelled(&page.main()[at..at + 16])
     }
 
     /// Writes the pointer's one spelling over the 16 main bytes from an offset on. Its sequence number is from 1 and below
@@ -84,6 +94,15 @@ fn read(bytes: &[u8]) -> Option<Pointer>
     ensures reads { Decodes fits_pointer is_pointer pointer_bytes bytes.now result }
 {
     decode(bytes)
+}
+
+#[tactic(auto, unfolding(crate::specs::Pointers::pointer_of))]
+fn spelled(bytes: &[u8]) -> Pointer
+    requires length { length bytes.now ≡ 16 }
+    requires spelled { IsSome (pointer_of bytes.now) }
+    ensures { pointer_of bytes.now ≡ Some result }
+{
+    pointer_from(bytes)
 }
 
 #[tactic(auto, unfolding(crate::specs::Pointers::pointer_of))]

@@ -19,10 +19,7 @@ pub(crate) fn read(page: &PageBuf, slot: u32) -> Option<Pointer>
     requires spelled { IsSome (indirect_of page.now.main) }
     ensures { result ≡ some_pointer (pointer_in page.now.main slot) }
 {
-    match Pointer::of(page, WIDTH * slot) {
-        Some(pointer) => some(pointer),
-        None => None,
-    }
+    some(Pointer::spelled_at(page, WIDTH * slot))
 }
 
 pub(crate) fn some(pointer: Pointer) -> Option<Pointer>

@@ -58,11 +58,7 @@ impl Nodes {
         requires spelled { IsSome (inode_at (page_of meta.now) ino) }
         ensures { inode_at (page_of meta.now) ino ≡ Some result }
     {
-        let page = meta.page(67 + ino / 16);
-        match InodeRec::of(page, 256 * (ino % 16)) {
-            Some(rec) => rec,
-            None => unreachable!(),
-        }
+        InodeRec::spelled_at(meta.page(67 + ino / 16), 256 * (ino % 16))
     }
 
     /// Gives a node this record, which has a spelling; its page is resident. False, and nothing changed, exactly where that page

@@ -331,3 +331,20 @@ first_whole xs h = take_all most xs h
 pub first_full : (xs ys : List ℕ) → length xs ≡ most → first_most (xs ++ ys) ≡ xs
 unfolding first_most
 first_full xs ys h = take-append-le most xs ys (omega (arith, h)) ∙ take_all most xs (omega (arith, h))
+
+-- where no address is this one, none is left out
+others_stay : (v : ℕ) (xs : List ℕ) → list_any (λ a. a == v) xs ≡ false → filter (is_not v) xs ≡ xs
+others_stay v [] e = refl
+others_stay v (x ∷ xs) e = by (others_stay v xs) (x == v) refl e
+  where
+    by : (list_any (λ a. a == v) xs ≡ false → filter (is_not v) xs ≡ xs) → (b : Bool) → (x == v) ≡ b → (b || list_any (λ a. a == v) xs) ≡ false
+        → filter (is_not v) (x ∷ xs) ≡ x ∷ xs
+    by rest true is e = absurd (cc e)
+    by rest false is e = ap (λ c. cond (not c) (x ∷ filter (is_not v) xs) (filter (is_not v) xs)) is ∙ ap (λ ys. x ∷ ys) (rest e)
+
+-- an address that was touched last, and stands nowhere else
+pub touched_front : (v : ℕ) (rest : List ℕ) → list_any (λ a. a == v) rest ≡ false → length rest < most → touched v (v ∷ rest) ≡ v ∷ rest
+unfolding touched first_most
+touched_front v rest none few =
+    let drops : filter (is_not v) (v ∷ rest) ≡ filter (is_not v) rest = ap (λ b. cond (not b) (v ∷ filter (is_not v) rest) (filter (is_not v) rest)) (eq-eqb v v refl) in
+    ap (λ ys. take most (v ∷ ys)) (drops ∙ others_stay v rest none) ∙ take_all most (v ∷ rest) (omega (arith, few))

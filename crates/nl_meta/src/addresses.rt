@@ -1,5 +1,5 @@
 //! Rising lists of virtual addresses: look-up, count, and one address more.
-ghost use Rattle.std.specs.Prelude.{◌≡◌, ◌≤◌, ◌+◌, ◌++◌, ◌∷◌, ◌==◌, [], length};
+ghost use Rattle.std.specs.Prelude.{◌≡◌, ◌≤◌, ◌+◌, ◌++◌, ◌∷◌, ◌==◌, [], true, length};
 ghost use Rattle.std.specs.List.{list_any};
 ghost use Rattle.nl_meta.specs.Pages.{above, below, besides_0, first_most, most, touched, with_address};
 
@@ -11,7 +11,13 @@ const MOST: u32 = 63;
 pub(crate) fn contains(addresses: &AddressList, vaddr: u32) -> bool
     ensures { result ≡ list_any (λ a. a == vaddr) addresses.now }
 {
-    addresses.as_slice().iter().any(|a| *a == vaddr)
+    has(addresses.as_slice(), vaddr)
+}
+
+fn has(addresses: &[u32], vaddr: u32) -> bool
+    ensures { result ≡ list_any (λ a. a == vaddr) addresses.now }
+{
+    addresses.iter().any(|a| *a == vaddr)
 }
 
 // How many are not address 0.
@@ -60,6 +66,21 @@ fn push_higher(out: &mut AddressList, addresses: &AddressList, vaddr: u32)
         if vaddr < *address {
             out.push(*address);
         }
+    }
+}
+
+// Whether an address was the last one that was touched, and stands nowhere else: touching it changes nothing.
+pub(crate) fn is_front(recent: &AddressList, vaddr: u32) -> bool
+    ensures { result ≡ true → touched vaddr recent.now ≡ recent.now }
+{
+    match recent.as_slice().split_first() {
+        Some((first, rest)) => {
+            if *first != vaddr {
+                return false;
+            }
+            rest.len() < MOST as usize && !has(rest, vaddr)
+        }
+        None => false,
     }
 }
 

@@ -8,7 +8,7 @@ ghost use Rattle.nl_meta.specs.Inside.{no_page};
 ghost use Rattle.nl_meta.specs.Steps.{Freshens, with_admitted, with_restored, without_page};
 ghost use Rattle.nl_meta.specs.Lending.{LendsAdmitted, LendsDirty, LendsPage};
 
-use crate::addresses::{contains, inserted, moved_front, others};
+use crate::addresses::{contains, inserted, is_front, moved_front, others};
 use nl_field::{AddressList, Memory, PageBuf, Shape};
 use std::alloc::Global;
 use std::marker::Model;
@@ -144,7 +144,9 @@ impl Meta {
         requires { IsSome (page_of self.old vaddr) }
         ensures { self.new ≡ record self.old { recent = touched vaddr self.old.recent } }
     {
-        self.recent = moved_front(&self.recent, vaddr);
+        if !is_front(&self.recent, vaddr) {
+            self.recent = moved_front(&self.recent, vaddr);
+        }
     }
 
     /// How many pages are dirty.

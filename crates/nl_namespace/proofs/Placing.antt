@@ -43,7 +43,7 @@ listed-at es [] i p e at is = absurd (none_some p at)
 listed-at es (q ∷ ps) zero p e at is = ap (λ (z : EntryRec). Some z) (get_or_from_slice_get es q e no_entry (ap (slice_get es) (some_in q p at) ∙ is))
 listed-at es (q ∷ ps) (suc i) p e at is = listed-at es ps i p e at is
 
-count-listed : (es : List EntryRec) (ps : List ℕ) → length (entries_at es ps) ≡ length ps
+pub count-listed : (es : List EntryRec) (ps : List ℕ) → length (entries_at es ps) ≡ length ps
 count-listed es [] = refl
 count-listed es (p ∷ ps) = ap (λ (n : ℕ). suc n) (count-listed es ps)
 

@@ -5,7 +5,7 @@ use Rattle.nl_field.specs.Graph.{Graph}
 use Rattle.nl_inode.specs.Free.{IsLeastFreeNumber, is_free}
 use Rattle.nl_inode.specs.Nodes.{AddressBecomes, IsLeastAddress, NodeBecomes, Spaces, is_free_address, is_free_node}
 use Rattle.nl_namespace.specs.Entering.{ReturnsAddress, TakesAddress}
-use Rattle.nl_namespace.specs.Taking.{IsTakenAddress, IsTakenNumber, TakesLeast}
+use Rattle.nl_namespace.specs.Taking.{IsTakenNumber, TakesLeast}
 
 pub true-false : true ≡ false → ⊥
 true-false e = cc

@@ -24,10 +24,30 @@ pub(crate) fn in_order(rec: &InodeRec, meta: &Meta) -> ArrayVec<u32, 1024>
     let mut order = ArrayVec::new();
     for place in 0..size_of(rec) {
         let name = name_at(rec, meta, place);
-        let at = place_among(rec, meta, order.as_slice(), name, 0, order.len());
+        let at = place_behind(rec, meta, order.as_slice(), name);
         order.insert(at, place);
     }
     order
+}
+
+/// Where a name comes among those of places in order. The last of them is looked at first: names are often in order already.
+fn place_behind(rec: &InodeRec, meta: &Meta, order: &[u32], name: &[u8]) -> usize
+    requires directory { IsDirectory (page_of meta.now) rec.now }
+    requires few { length order.now ≤ rec.now.size }
+    requires order { IsOrder (entries_of_inode (page_of meta.now) rec.now) (length order.now) order.now }
+    ensures inside { result ≤ length order.now }
+    ensures parts { Parts (entries_at (entries_of_inode (page_of meta.now) rec.now) order.now) name.now result result }
+{
+    let count = order.len();
+    if count == 0 {
+        return 0;
+    }
+    let last = count - 1;
+    if comes_before(name_at(rec, meta, order[last]), name) {
+        place_among(rec, meta, order, name, last + 1, count)
+    } else {
+        place_among(rec, meta, order, name, 0, last)
+    }
 }
 
 /// Where a name comes among those of places in order: not before `low`, and not behind `high`.

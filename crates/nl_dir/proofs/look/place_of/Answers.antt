@@ -1,4 +1,4 @@
-use Rattle.std.proofs.Common.{◌≡◌, ℕ, ◌+◌, ◌-◌, ◌*◌, ◌<◌, ◌∙◌, ⊎_elim, min, sym, ap, subst}
+use Rattle.std.proofs.Common.{ℕ, ◌-◌, ◌*◌, ◌<◌, ◌∙◌, ⊎_elim, min, sym, ap, subst}
 use Rattle.std.proofs.lemmas.Bool.{cases_lt}
 use Rattle.nl_meta.specs.Pages.{page_of}
 use Rattle.nl_dir.proofs.LookProofs.{row-named, row-none}
