@@ -19,7 +19,7 @@ use Rattle.nl_turns.specs.Seat.{Passed, SeatState, entries, passed_by}
 use Rattle.nl_turns.specs.Served.{effect_entry, outcome_due}
 use Rattle.nl_turns.specs.declared.entry.Entry.{Entry}
 use Rattle.nl_turns.proofs.Lines.{get_at}
-use Rattle.nl_workers.specs.Placed.{LineTookEffect, LineMayRun, EndsStaged, effects_of}
+use Rattle.nl_workers.specs.Placed.{LineTookEffect, EndsStaged, effects_of}
 use Rattle.nl_workers.specs.Table.{Row}
 use Rattle.nl_workers.specs.Worked.{IsAnswer}
 use Rattle.nl_workers.specs.Going.{HasRunAll, times_in}
@@ -157,6 +157,19 @@ due_at opening xs ys e l found some is =
     ∙ (λ i. option_map (step_marked opening.shape (replay opening.shape opening.tree (take_front (marked_calls opening xs) ((l.call, fault_of e.fault) ∷ marked_calls opening ys) i)))
     (get_middle (marked_calls opening xs) (marked_calls opening ys) (l.call, fault_of e.fault) i))
 
+deeper : {A : Type 0} (xs : List A) (x : A) (ys : List A) (y : A) (zs mid all : List A) → xs ++ x ∷ ys ≡ mid → mid ++ y ∷ zs ≡ all → xs ++ x ∷ (ys ++ y ∷ zs) ≡ all
+deeper xs x ys y zs mid all inner outer = sym (append_assoc xs (x ∷ ys) (y ∷ zs)) ∙ (ap (λ z. z ++ y ∷ zs) inner ∙ outer)
+
+not_above : (i j m n : ℕ) → i < j → m ≡ j → n ≡ i → m ≤ n → ⊥
+not_above i j m n lt e f le = omega arith
+
+fewer_before : (lines : List Line) (xs : List Passed) (x : Passed) (ys all : List Passed) → xs ++ x ∷ ys ≡ all → length (answered_lines lines (entries xs)) ≤ length (answered_lines lines (entries all))
+fewer_before lines xs x ys all is =
+    let d : length (answered_lines lines (entries all)) ≡ length (answered_lines lines (entries xs) ++ answered_lines lines (entries (x ∷ ys))) =
+    ap (λ z. length (answered_lines lines (entries z))) (sym is) ∙ (ap (λ z. length (answered_lines lines z)) (map-append (λ (q : Passed). q.entry) xs (x ∷ ys)) ∙ ap length (answered_append lines (entries xs) (entries (x ∷ ys)))) in
+    let g = length-append (answered_lines lines (entries xs)) (answered_lines lines (entries (x ∷ ys))) in
+    omega arith
+
 -- ---- the history of all lines
 
 effects_some : (e : Entry) (es : List Entry) → 0 < effects_of e.line (e ∷ es)
@@ -214,34 +227,33 @@ module _ (tells : Type 0) (lines : List Line) (seat after : SeatState) (stations
   contains_line : (l : Line) → line_at lines l.line ≡ Some l → Contains lines l
   contains_line l e = let at = (found_number lines l.line l e).1 in let g = get_at lines at.0 l l at.1 in (at.0, g.0, g.1)
 
+  -- an effect that stands before another one is counted before it
+  clash : (i j : ℕ) (a b : Line) → i < j → (s : StandsAt lines after.seen i a) → StandsAt lines after.seen j b → (xs : List Passed) (x : Passed) (ys : List Passed) → xs ++ x ∷ ys ≡ s.before → x.entry.line ≡ b.line → ⊥
+  clash i j a b lt s t xs x ys front line_is =
+      let all : xs ++ x ∷ (ys ++ s.entry ∷ s.after) ≡ after.seen = deeper xs x ys s.entry s.after s.before after.seen front s.split in
+      let number : b.line ≡ t.entry.entry.line = (found_number lines t.entry.entry.line b t.found).0 in
+      let some : 0 < b.line = subst (λ n. 0 < n) (sym number) t.some in
+      let once : keyed (λ (q : Passed). q.entry.line) b.line (xs ++ x ∷ (ys ++ s.entry ∷ s.after)) ≤ 1 =
+      subst (λ z. keyed (λ (q : Passed). q.entry.line) b.line z ≤ 1) (sym all) (one_effect_each b.line some) in
+      let same = same_split (λ (q : Passed). q.entry.line) b.line xs t.before (ys ++ s.entry ∷ s.after) t.after x t.entry line_is (sym number) (all ∙ sym t.split) once in
+      not_above i j (length (answered_lines lines (entries xs))) (length (answered_lines lines (entries s.before))) lt (ap (λ z. length (answered_lines lines (entries z))) same.0 ∙ t.index) s.index
+      (fewer_before lines xs x ys s.before front)
+
+  -- a line that has to precede the one that is staged for has its effect before the staging
+  earlier_ran : (a b : Line) (before : List Passed) (one : Passed) (rest : List Passed) → before ++ one ∷ rest ≡ after.seen → line_at lines one.entry.staged ≡ Some a → 0 < one.entry.staged → line_at lines b.line ≡ Some b
+      → IsTrue (has_to_precede b a) → LineTookEffect b.line before
+  earlier_ran a b before one rest is here some found_b prec =
+      subst (λ o. IfSome o (λ line. (earlier : Line) → Contains lines earlier → IsTrue (has_to_precede earlier line) → LineTookEffect earlier.line before)) here ((w.placed before one rest is).staged some) b
+      (contains_line b found_b) prec
+
   too_late : (i j : ℕ) (a b : Line) → i < j → StandsAt lines after.seen i a → StandsAt lines after.seen j b → IsTrue (has_to_precede b a) → ⊥
   too_late i j a b lt s t prec =
-      let number_a = found_number lines s.entry.entry.line a s.found in
-      let number_b = found_number lines t.entry.entry.line b t.found in
       let ends : EndsStaged s.entry.entry.line _ = (w.placed s.before s.entry s.after s.split).effect s.some in
       let f = is_from s.entry.seat s.before ends.before [] ends.last ends.split in
       let staged : f.one.entry.staged ≡ s.entry.entry.line = ap (λ (e : Entry). e.staged) f.entry_is ∙ ends.line_is in
-      let whole : f.before ++ f.one ∷ (f.after ++ s.entry ∷ s.after) ≡ after.seen = sym (append_assoc f.before (f.one ∷ f.after) (s.entry ∷ s.after)) ∙ (ap (λ z. z ++ s.entry ∷ s.after) f.split ∙ s.split) in
-      let p = s.some in
-      let may : LineMayRun lines f.one.entry.staged f.before = (w.placed f.before f.one (f.after ++ s.entry ∷ s.after) whole).staged (omega arith) in
-      let here : line_at lines f.one.entry.staged ≡ Some a = ap (line_at lines) staged ∙ s.found in
-      let runs : (earlier : Line) → Contains lines earlier → IsTrue (has_to_precede earlier a) → LineTookEffect earlier.line f.before =
-      subst (λ o. IfSome o (λ line. (earlier : Line) → Contains lines earlier → IsTrue (has_to_precede earlier line) → LineTookEffect earlier.line f.before)) here may in
-      let b_found : line_at lines b.line ≡ Some b = ap (line_at lines) number_b.0 ∙ t.found in
-      let e = runs b (contains_line b b_found) prec in
-      let all : e.before ++ e.entry ∷ (e.after ++ f.one ∷ (f.after ++ s.entry ∷ s.after)) ≡ after.seen = sym (append_assoc e.before (e.entry ∷ e.after) (f.one ∷ (f.after ++ s.entry ∷ s.after))) ∙ (ap (λ z. z ++ f.one ∷ (f.after ++ s.entry ∷ s.after)) e.split ∙ whole) in
-      let some_b : 0 < b.line = some_number b b_found in
-      let once : keyed (λ (q : Passed). q.entry.line) b.line (e.before ++ e.entry ∷ (e.after ++ f.one ∷ (f.after ++ s.entry ∷ s.after))) ≤ 1 =
-      subst (λ z. keyed (λ (q : Passed). q.entry.line) b.line z ≤ 1) (sym all) (one_effect_each b.line some_b) in
-      let same = same_split (λ (q : Passed). q.entry.line) b.line e.before t.before (e.after ++ f.one ∷ (f.after ++ s.entry ∷ s.after)) t.after e.entry t.entry e.line_is (sym number_b.0) (all ∙ sym t.split) once in
-      let c : length (answered_lines lines (entries e.before)) ≡ j = ap (λ z. length (answered_lines lines (entries z))) same.0 ∙ t.index in
-      let rest : List Passed = e.entry ∷ (e.after ++ f.one ∷ f.after) in
-      let front : s.before ≡ e.before ++ rest = sym f.split ∙ (ap (λ z. z ++ f.one ∷ f.after) (sym e.split) ∙ append_assoc e.before (e.entry ∷ e.after) (f.one ∷ f.after)) in
-      let d : length (answered_lines lines (entries s.before)) ≡ length (answered_lines lines (entries e.before) ++ answered_lines lines (entries rest)) =
-      ap (λ z. length (answered_lines lines (entries z))) front ∙ (ap (λ z. length (answered_lines lines z)) (map-append (λ (q : Passed). q.entry) e.before rest) ∙ ap length (answered_append lines (entries e.before) (entries rest))) in
-      let g = length-append (answered_lines lines (entries e.before)) (answered_lines lines (entries rest)) in
-      let h = s.index in
-      omega arith
+      let e = earlier_ran a b f.before f.one (f.after ++ s.entry ∷ s.after) (deeper f.before f.one f.after s.entry s.after s.before after.seen f.split s.split) (ap (line_at lines) staged ∙ s.found)
+      (subst (λ n. 0 < n) (sym staged) s.some) (ap (line_at lines) (found_number lines t.entry.entry.line b t.found).0 ∙ t.found) prec in
+      clash i j a b lt s t e.before e.entry (e.after ++ f.one ∷ f.after) (deeper e.before e.entry e.after f.one f.after f.before s.before e.split f.split) e.line_is
 
   not_before : (i j : ℕ) (a b : Line) → i < j → slice_get (answered_lines lines es) i ≡ Some a → slice_get (answered_lines lines es) j ≡ Some b → IsFalse (has_to_precede b a)
   not_before i j a b lt ea eb = go (has_to_precede b a) refl

@@ -1,6 +1,6 @@
-use Rattle.std.proofs.Common.{◌∙◌, subst}
+use Rattle.std.proofs.Common.{Some, ◌∙◌, subst}
 use Rattle.nl_namespace.specs.Placing.{IfHeld, IsNameSpot}
-use Rattle.nl_namespace.proofs.Chains.{node-before, then-on, then-runs, then-used}
+use Rattle.nl_namespace.proofs.Chains.{node-before, then-on, then-reads, then-runs, then-used}
 use Rattle.nl_namespace.proofs.MoveDone.{held-stays}
 use Rattle.nl_namespace.proofs.RemoveDone.{target-used}
 use Rattle.nl_namespace.proofs.finding.find_node.Goals as goal
@@ -34,3 +34,28 @@ returns-in-Ok-clause-kept g c =
 pub returns-in-Err-node-clause-kept : goal.returns-in-Err-node-clause-kept
 returns-in-Err-node-clause-kept g c =
     then-on g.D.Counts c.args.device.now c.args.meta.now c.locate.new.device c.locate.new.meta (g.met.D.VirtualPages.numbers c.args.device.now c.requires.formed) c.in-Ok-At.ensures.kept c.node.new.device c.node.new.meta c.in-Err-node.ensures.kept
+
+pub locate-requires-clause-formed : goal.locate-requires-clause-formed
+locate-requires-clause-formed g c = c.requires.formed
+
+pub locate-requires-clause-runs : goal.locate-requires-clause-runs
+locate-requires-clause-runs g c = c.requires.runs
+
+pub locate-requires-clause-not_root : goal.locate-requires-clause-not_root
+locate-requires-clause-not_root g c = c.requires.not_root
+
+pub node-requires-clause-formed : goal.node-requires-clause-formed
+node-requires-clause-formed g c = c.in-Ok-At.ensures.formed
+
+pub returns-in-Ok-clause-formed : goal.returns-in-Ok-clause-formed
+returns-in-Ok-clause-formed g c = c.in-Ok.ensures.formed
+
+pub returns-in-Ok-clause-reads : goal.returns-in-Ok-clause-reads
+returns-in-Ok-clause-reads g c = c.in-Ok.ensures.reads ∙ c.in-Ok-At.ensures.reads
+
+pub returns-in-Err-node-clause-formed : goal.returns-in-Err-node-clause-formed
+returns-in-Err-node-clause-formed g c = c.in-Err-node.ensures.formed
+
+pub returns-in-Err-node-clause-reads : goal.returns-in-Err-node-clause-reads
+returns-in-Err-node-clause-reads g c =
+    then-reads g.D.Counts c.args.device.now c.args.meta.now c.locate.new.device c.locate.new.meta (g.met.D.VirtualPages.numbers c.args.device.now c.requires.formed) c.in-Ok-At.ensures.kept c.node.new.device (Some c.in-Err-node.stop) c.in-Ok-At.ensures.reads c.in-Err-node.ensures.reads

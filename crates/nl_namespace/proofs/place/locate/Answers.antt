@@ -51,3 +51,51 @@ returns-in-Err-enter-clause-kept g c =
 pub returns-in-Err-enter-clause-reads : goal.returns-in-Err-enter-clause-reads
 returns-in-Err-enter-clause-reads g c =
     then-reads g.D.Counts c.args.device.now c.args.meta.now c.walk_to_parent.new.device c.walk_to_parent.new.meta (g.met.D.VirtualPages.numbers c.args.device.now c.requires.formed) c.in-Ok-At.ensures.kept c.enter.new.device (Some c.in-Err-enter.stop) c.in-Ok-At.ensures.reads c.in-Err-enter.ensures.reads
+
+pub walk_to_parent-requires-clause-formed : goal.walk_to_parent-requires-clause-formed
+walk_to_parent-requires-clause-formed g c = c.requires.formed
+
+pub walk_to_parent-requires-clause-runs : goal.walk_to_parent-requires-clause-runs
+walk_to_parent-requires-clause-runs g c = c.requires.runs
+
+pub walk_to_parent-requires-clause-not_root : goal.walk_to_parent-requires-clause-not_root
+walk_to_parent-requires-clause-not_root g c = c.requires.not_root
+
+pub enter-requires-clause-formed : goal.enter-requires-clause-formed
+enter-requires-clause-formed g c = c.in-Ok-At.ensures.formed
+
+pub returns-in-Ok-Some-clause-formed : goal.returns-in-Ok-Some-clause-formed
+returns-in-Ok-Some-clause-formed g c = c.in-Ok-Some.ensures.formed
+
+pub returns-in-Ok-Some-clause-reads : goal.returns-in-Ok-Some-clause-reads
+returns-in-Ok-Some-clause-reads g c = c.in-Ok-Some.ensures.reads ∙ c.in-Ok-At.ensures.reads
+
+pub returns-in-Ok-None-clause-formed : goal.returns-in-Ok-None-clause-formed
+returns-in-Ok-None-clause-formed g c = c.in-Ok-None.ensures.formed
+
+pub returns-in-Ok-None-clause-reads : goal.returns-in-Ok-None-clause-reads
+returns-in-Ok-None-clause-reads g c = c.in-Ok-None.ensures.reads ∙ c.in-Ok-At.ensures.reads
+
+pub returns-in-Err-enter-clause-formed : goal.returns-in-Err-enter-clause-formed
+returns-in-Err-enter-clause-formed g c = c.in-Err-enter.ensures.formed
+
+pub returns-in-Ok-No-clause-formed : goal.returns-in-Ok-No-clause-formed
+returns-in-Ok-No-clause-formed g c = c.in-Ok-No.ensures.formed
+
+pub returns-in-Ok-No-clause-spot : goal.returns-in-Ok-No-clause-spot
+returns-in-Ok-No-clause-spot g c = subst (IsParent g.D.Counts c.args.device.now c.args.meta.now c.args.path.now) c.in-Ok-No.field-0-is c.in-Ok-No.ensures.parent
+
+pub returns-in-Ok-No-clause-kept : goal.returns-in-Ok-No-clause-kept
+returns-in-Ok-No-clause-kept g c = c.in-Ok-No.ensures.kept
+
+pub returns-in-Ok-No-clause-reads : goal.returns-in-Ok-No-clause-reads
+returns-in-Ok-No-clause-reads g c = c.in-Ok-No.ensures.reads
+
+pub returns-in-Err-clause-formed : goal.returns-in-Err-clause-formed
+returns-in-Err-clause-formed g c = c.in-Err.ensures.formed
+
+pub returns-in-Err-clause-kept : goal.returns-in-Err-clause-kept
+returns-in-Err-clause-kept g c = c.in-Err.ensures.kept
+
+pub returns-in-Err-clause-reads : goal.returns-in-Err-clause-reads
+returns-in-Err-clause-reads g c = c.in-Err.ensures.reads

@@ -8,7 +8,8 @@ use Rattle.nl_tree.specs.Tree.{is_at_or_under, paths_eq}
 use Rattle.nl_meta_running.specs.Running.{running_on}
 use Rattle.nl_namespace.specs.Finding.{FoundIsResident, IsFoundName}
 use Rattle.nl_namespace.specs.Moving.{RenamesName}
-use Rattle.nl_namespace.proofs.Chains.{then-graph, then-runs}
+use Rattle.nl_namespace.specs.Reading.{change_stop}
+use Rattle.nl_namespace.proofs.Chains.{then-graph, then-reads, then-runs}
 use Rattle.nl_namespace.proofs.MakeDone.{held-then, not-empty-root}
 use Rattle.nl_namespace.proofs.MakeReady.{fits-then, leaves-after}
 use Rattle.nl_namespace.proofs.MoveRefusals.{kept-changes, missing-old, no-other-path, same-path, stays-one, there-then, under-itself}
@@ -50,3 +51,7 @@ returns-else-is_directory-clause-left g c = leaves-after g.D.Counts c.args.devic
 
 pub returns-in-Ok-Free-clause-answer : goal.returns-in-Ok-Free-clause-answer
 returns-in-Ok-Free-clause-answer g c = let f = subst (IsFoundName g.D.Counts c.args.device.now c.args.meta.now c.args.from.now) c.in-Ok-Free.field-0-is c.in-Ok-Free.ensures.found in inl (missing-old g.D.Counts c.args.device.now c.args.meta.now (g.met.D.VirtualPages.numbers c.args.device.now c.requires.formed) c.requires.runs c.args.from.now c.args.to.now c.in-Ok-Free.field-0-0 f.0 f.1 (ap is_too_long (sym c.names.ensures) ∙ sym c.is_long.ensures ∙ c.if-is_long.false) (ap is_too_long (sym c.names-else-is_long.ensures) ∙ sym c.is_long-else-is_long.ensures ∙ c.if-is_long-2.false) (not-empty-root c.args.to.now (λ e. c.if-len-eq0-2.false (c.len-else-len-eq0.ensures.count ∙ ap length e))))
+
+pub returns-else-is_directory-clause-reads : goal.returns-else-is_directory-clause-reads
+returns-else-is_directory-clause-reads g c =
+    then-reads g.D.Counts c.args.device.now c.args.meta.now c.find_node.new.device c.find_node.new.meta (g.met.D.VirtualPages.numbers c.args.device.now c.requires.formed) c.in-Ok-At.ensures.kept c.rename_to.new.device (change_stop c.rename_to.result) c.in-Ok-At.ensures.reads c.rename_to.ensures.reads

@@ -17,21 +17,21 @@ returns-in_default-clause-ran g t c =
 pub work-seat-requires-clause-may : goal.work-seat-requires-clause-may
 work-seat-requires-clause-may g t c =
     let more = c.pop.new.self.items in
-    let all : c.args.stations.items ≡ more ++ c.in-Some.station ∷ [] = search rules in
+    let all : c.args.stations.items ≡ more ++ c.in-Some.station ∷ [] = c.in-Some.ensures.items in
     may_work g.V.Served.tells c.args.lines.now c.args.span.from c.args.span.to c.len-worker.result c.args.seat c.in-Some.station more (subst (MayStart g.V.Served.tells c.args.lines.now c.args.span.from c.args.span.to c.args.seat) all c.requires.may) (search rules)
 
 pub run_crew-seat-requires-clause-may : goal.run_crew-seat-requires-clause-may
 run_crew-seat-requires-clause-may g t c κs within =
     let more = c.pop.new.self.items in
-    let all : c.args.stations.items ≡ more ++ c.in-Some.station ∷ [] = search rules in
+    let all : c.args.stations.items ≡ more ++ c.in-Some.station ∷ [] = c.in-Some.ensures.items in
     may_go_on g.V.Served.tells c.args.lines.now c.args.span.from c.args.span.to c.len-worker.result c.args.seat c.in-Some.station more (subst (MayStart g.V.Served.tells c.args.lines.now c.args.span.from c.args.span.to c.args.seat) all c.requires.may) (search rules)
     c.work-seat.result.0 c.work-seat.result.1 c.work-seat.ensures.worked
 
 pub returns-then-not-needs_thread-clause-ran : goal.returns-then-not-needs_thread-clause-ran
 returns-then-not-needs_thread-clause-ran g t c =
     let more = c.pop.new.self.items in
-    let all : c.args.stations.items ≡ more ++ c.in-Some.station ∷ [] = search rules in
-    let pushed : c.push_reserved.new.self.items ≡ c.run_crew-seat.result.1.items ++ c.work-seat.result.1 ∷ [] = search rules in
+    let all : c.args.stations.items ≡ more ++ c.in-Some.station ∷ [] = c.in-Some.ensures.items in
+    let pushed : c.push_reserved.new.self.items ≡ c.run_crew-seat.result.1.items ++ c.work-seat.result.1 ∷ [] = c.push_reserved.ensures.items in
     let ran = own_ran g.V.Served.tells c.args.lines.now c.args.span.from c.args.span.to c.len-worker.result c.args.seat c.in-Some.station more (subst (MayStart g.V.Served.tells c.args.lines.now c.args.span.from c.args.span.to c.args.seat) all c.requires.may) (search rules)
     c.work-seat.result.0 c.work-seat.result.1 c.work-seat.ensures.worked c.run_crew-seat.result.0 c.run_crew-seat.result.1.items c.run_crew-seat.ensures.ran in
     subst (λ (z : List Station × List Station). CrewHasRun g.V.Served.tells c.args.lines.now c.args.span.from c.args.span.to c.args.seat z.0 c.run_crew-seat.result.0 z.1) (λ i. (sym all i, sym pushed i)) ran
@@ -44,7 +44,7 @@ join-own-requires-after_bounds g t c κs within =
     let left = c.split.new.seat in
     let more = c.pop.new.self.items in
     let s = c.in-Some-split.ensures in
-    let all : c.args.stations.items ≡ more ++ c.in-Some.station ∷ [] = search rules in
+    let all : c.args.stations.items ≡ more ++ c.in-Some.station ∷ [] = c.in-Some.ensures.items in
     let start : MayStart g.V.Served.tells lines c.args.span.from c.args.span.to seat (more ++ c.in-Some.station ∷ []) = subst (MayStart g.V.Served.tells lines c.args.span.from c.args.span.to seat) all c.requires.may in
     let some : 0 < c.len-worker.result = search rules in
     let count : c.len-worker.result ≡ length more = search rules in
@@ -64,8 +64,8 @@ returns-clause-ran g t c =
     let second = c.join-own.result.1 in
     let after = c.join.new.seat in
     let j = c.join.ensures in
-    let all : c.args.stations.items ≡ more ++ c.in-Some.station ∷ [] = search rules in
-    let pushed : c.push_reserved-2.new.self.items ≡ second.1.items ++ first.1 ∷ [] = search rules in
+    let all : c.args.stations.items ≡ more ++ c.in-Some.station ∷ [] = c.in-Some.ensures.items in
+    let pushed : c.push_reserved-2.new.self.items ≡ second.1.items ++ first.1 ∷ [] = c.push_reserved-2.ensures.items in
     let start : MayStart g.V.Served.tells lines c.args.span.from c.args.span.to seat (more ++ c.in-Some.station ∷ []) = subst (MayStart g.V.Served.tells lines c.args.span.from c.args.span.to seat) all c.requires.may in
     let count : c.len-worker.result ≡ length more = search rules in
     let ran = thread_ran g.V.Served.tells lines c.args.span.from c.args.span.to c.len-worker.result seat c.in-Some.station more start count c.in-Some-split.own c.split.new.seat s.given s.seat.1 s.numbers.1
@@ -80,7 +80,7 @@ returns-in_default-clause-heard g t c =
 pub returns-then-not-needs_thread-clause-heard : goal.returns-then-not-needs_thread-clause-heard
 returns-then-not-needs_thread-clause-heard g t c =
     let more = c.pop.new.self.items in
-    let all : c.args.stations.items ≡ more ++ c.in-Some.station ∷ [] = search rules in
+    let all : c.args.stations.items ≡ more ++ c.in-Some.station ∷ [] = c.in-Some.ensures.items in
     let worker : c.len-worker.result ≡ length more = search rules in
     let count : length c.args.stations.items ≡ length more + 1 = ap (λ (xs : List Station). length xs) all ∙ length-append more (c.in-Some.station ∷ []) in
     own_heard (g.G.Gate.heard c.args.gate.now) c.args.lines.now c.args.span.from c.args.span.to c.len-worker.result (length more) (length c.args.stations.items) worker count c.args.seat
@@ -97,7 +97,7 @@ returns-clause-heard g t c =
     let after = c.join.new.seat in
     let j = c.join.ensures in
     let ran = c.join-own.ensures in
-    let all : c.args.stations.items ≡ more ++ c.in-Some.station ∷ [] = search rules in
+    let all : c.args.stations.items ≡ more ++ c.in-Some.station ∷ [] = c.in-Some.ensures.items in
     let worker : c.len-worker.result ≡ length more = search rules in
     let count : length c.args.stations.items ≡ length more + 1 = ap (λ (xs : List Station). length xs) all ∙ length-append more (c.in-Some.station ∷ []) in
     let unused : by_seat own.number own.seen ≡ [] = s.numbers.1 own.number (omega arith) in

@@ -1,4 +1,4 @@
-use Rattle.std.proofs.Common.{◌≡◌, ap, map, arith}
+use Rattle.std.proofs.Common.{◌≡◌, ℕ, ap, map, arith}
 use Rattle.nl_core_callbacks.specs.Handled.{nameless_line}
 use Rattle.nl_iface.proofs.RoundSteps.{empties_laws}
 use Rattle.nl_core.specs.Core.{names_of}
@@ -6,6 +6,12 @@ use Rattle.nl_core.specs.declared.rounds.Rounded.TheVariants as rounded
 use Rattle.nl_core.proofs.NonePending.{none_pending}
 use Rattle.nl_core.proofs.Onward.{cause_stopped, goes_more, goes_none}
 use Rattle.nl_core.proofs.state.Core.commit_if_due.Goals as goal
+
+done_fault : rounded.Done ≡ rounded.Fault → ⊥
+done_fault e = cc
+
+lost_fault : (wanted found : ℕ) → rounded.Lost wanted found ≡ rounded.Fault → ⊥
+lost_fault wanted found e = cc
 
 pub returns-then-not-is_due-clause-goes : goal.returns-then-not-is_due-clause-goes
 returns-then-not-is_due-clause-goes g c =
@@ -26,7 +32,7 @@ returns-then-not-is_due-clause-emptied g c =
     }
 
 pub returns-then-not-is_due-clause-faults : goal.returns-then-not-is_due-clause-faults
-returns-then-not-is_due-clause-faults g c is = absurd (let no : ⊥ = cc in no)
+returns-then-not-is_due-clause-faults g c is = absurd (done_fault is)
 
 pub returns-then-self-ne0-clause-lines : goal.returns-then-self-ne0-clause-lines
 returns-then-self-ne0-clause-lines g c = ap (λ xs. map nameless_line xs) c.in-Done.ensures.commits.same_flight
@@ -53,7 +59,7 @@ returns-else-self-ne0-clause-emptied g c =
     }
 
 pub returns-else-self-ne0-clause-faults : goal.returns-else-self-ne0-clause-faults
-returns-else-self-ne0-clause-faults g c is = absurd (let no : ⊥ = cc in no)
+returns-else-self-ne0-clause-faults g c is = absurd (done_fault is)
 
 pub returns-in-Lost-clause-lines : goal.returns-in-Lost-clause-lines
 returns-in-Lost-clause-lines g c = ap (λ xs. map nameless_line xs) c.in-Lost.ensures.commits.0.same_flight
@@ -62,7 +68,7 @@ pub returns-in-Lost-clause-emptied : goal.returns-in-Lost-clause-emptied
 returns-in-Lost-clause-emptied g c = (c.in-Lost.ensures.commits.1, c.in-Lost.ensures.commits.2)
 
 pub returns-in-Lost-clause-faults : goal.returns-in-Lost-clause-faults
-returns-in-Lost-clause-faults g c is = absurd (let no : ⊥ = cc in no)
+returns-in-Lost-clause-faults g c is = absurd (lost_fault _ _ is)
 
 pub returns-in-Fault-clause-lines : goal.returns-in-Fault-clause-lines
 returns-in-Fault-clause-lines g c = ap (λ xs. map nameless_line xs) c.in-Fault.ensures.commits.same_flight

@@ -37,6 +37,42 @@ use Rattle.nl_device.proofs.Moving.{here_now, insert_length}
 use Rattle.nl_device.proofs.Moved.{copies_from, may_copy, mid_held, mid_tables, moved_device, post_room, taken_device, takes_victim, unmoved_device}
 use Rattle.nl_device.proofs.moving_pages.DeviceMovingPages.copy.Goals as goal
 
+moved_nothing : (before after : ℕ) (tag : Tag) (stamp : ℕ) → copy.Moved before after tag stamp ≡ copy.Nothing → ⊥
+moved_nothing before after tag stamp e = cc
+
+moved_fault : (before after : ℕ) (tag : Tag) (stamp : ℕ) → copy.Moved before after tag stamp ≡ copy.Fault → ⊥
+moved_fault before after tag stamp e = cc
+
+lost_nothing : (wanted found : ℕ) → copy.Lost wanted found ≡ copy.Nothing → ⊥
+lost_nothing wanted found e = cc
+
+lost_fault : (wanted found : ℕ) → copy.Lost wanted found ≡ copy.Fault → ⊥
+lost_fault wanted found e = cc
+
+fault_nothing : copy.Fault ≡ copy.Nothing → ⊥
+fault_nothing e = cc
+
+nothing_fault : copy.Nothing ≡ copy.Fault → ⊥
+nothing_fault e = cc
+
+did_is_nothing : now.Did ≡ now.Nothing → ⊥
+did_is_nothing e = cc
+
+did_is_fault : now.Did ≡ now.Fault → ⊥
+did_is_fault e = cc
+
+nothing_is_fault : now.Nothing ≡ now.Fault → ⊥
+nothing_is_fault e = cc
+
+lost_is_nothing : (wanted found : ℕ) → now.Lost wanted found ≡ now.Nothing → ⊥
+lost_is_nothing wanted found e = cc
+
+lost_is_fault : (wanted found : ℕ) → now.Lost wanted found ≡ now.Fault → ⊥
+lost_is_fault wanted found e = cc
+
+fault_is_nothing : now.Fault ≡ now.Nothing → ⊥
+fault_is_nothing e = cc
+
 pub post-requires : goal.post-requires
 post-requires g c =
     let d = c.args.self.now in
@@ -55,13 +91,10 @@ returns-in-Moved-clause-formed g c =
     let room = post_room mid c.in-Moved.ensures.copies.moved in
     subst (λ k. IsDevice (g.M.Nand.geometry c.copy_one-answer.new.media) g.M.Nand.tells (g.M.Nand.contents c.copy_one-answer.new.media) d.shape d.vseg c.copy_one-answer.new.self c.post.new.self k d.next) (sym c.forget_after.ensures)
     (moved_device mid e.geometry fits (λ t. g.met.M.Nand.contents_fit c.copy_one-answer.new.media t) c.copy_one-answer.new.self e.whole e.copies.kept_block (λ t. (e.medium t).segment) (λ t. (e.medium t).spare)
-    (λ t. may_copy ((c.copy_one-answer.ensures.medium t).crash (λ none. apart c.in-Moved.before c.in-Moved.after c.in-Moved.tag c.in-Moved.stamp (sym c.in-Moved.is ∙ none))))
+    (λ t. may_copy ((c.copy_one-answer.ensures.medium t).crash (λ none. moved_nothing c.in-Moved.before c.in-Moved.after c.in-Moved.tag c.in-Moved.stamp (sym c.in-Moved.is ∙ none))))
     c.in-Moved.before c.in-Moved.after (record { tag = c.in-Moved.tag; stamp = c.in-Moved.stamp }) c.in-Moved.ensures.copies.moved c.post.new.self c.post.result p.table
     (ap (λ (x : PendingTable). x.callbacks) p.posted)
     (let l = ap (λ (x : PendingTable). length x.callbacks) p.posted in let r = ap (λ (x : PendingTable). x.room) p.posted in let i = insert_length d.pending.callbacks (place_of d.pending.callbacks c.post.result) (new_entry (callback_of c.post.result c.in-Moved.before c.in-Moved.after c.in-Moved.tag c.in-Moved.stamp)) in omega (arith, l, r, i, room)))
-  where
-    apart : (before after : ℕ) (tag : Tag) (stamp : ℕ) → copy.Moved before after tag stamp ≡ copy.Nothing → ⊥
-    apart before after tag stamp e = cc
 
 pub returns-in-Fault-clause-formed : goal.returns-in-Fault-clause-formed
 returns-in-Fault-clause-formed g c =
@@ -72,10 +105,7 @@ returns-in-Fault-clause-formed g c =
     let mid = taken_device c.requires.formed fits c.begin-began.new.self false c.begin-began.result b.begun b.none b.whole b.kept b.segment b.spare in
     subst (λ k. IsDevice (g.M.Nand.geometry c.copy_one-answer.new.media) g.M.Nand.tells (g.M.Nand.contents c.copy_one-answer.new.media) d.shape d.vseg c.copy_one-answer.new.self d.pending k d.next) (sym c.forget_after-in-Fault.ensures)
     (unmoved_device mid e.geometry fits (λ t. g.met.M.Nand.contents_fit c.copy_one-answer.new.media t) c.copy_one-answer.new.self e.whole e.copies.kept_block (λ t. (e.medium t).segment) (λ t. (e.medium t).spare)
-    (λ t. may_copy ((c.copy_one-answer.ensures.medium t).crash (λ none. apart (sym c.in-Fault.is ∙ none)))) (c.in-Fault.ensures.copies.kept (λ moved. moved)))
-  where
-    apart : copy.Fault ≡ copy.Nothing → ⊥
-    apart e = cc
+    (λ t. may_copy ((c.copy_one-answer.ensures.medium t).crash (λ none. fault_nothing (sym c.in-Fault.is ∙ none)))) (c.in-Fault.ensures.copies.kept (λ moved. moved)))
 
 pub returns-in-Moved-clause-kept : goal.returns-in-Moved-clause-kept
 returns-in-Moved-clause-kept g c =
@@ -87,7 +117,7 @@ returns-in-Moved-clause-kept g c =
     let new = g.M.Nand.contents c.copy_one-answer.new.media in
     let bound = d.shape.vblocks * d.shape.pages in
     let mid = taken_device f (λ t. g.met.M.Nand.contents_fit d.media t) c.begin-began.new.self false c.begin-began.result b.begun b.none b.whole b.kept b.segment b.spare in
-    let either = λ (t : g.M.Nand.tells). to_takes (may_copy ((e.medium t).crash (λ none. apart c.in-Moved.before c.in-Moved.after c.in-Moved.tag c.in-Moved.stamp (sym c.in-Moved.is ∙ none)))).either in
+    let either = λ (t : g.M.Nand.tells). to_takes (may_copy ((e.medium t).crash (λ none. moved_nothing c.in-Moved.before c.in-Moved.after c.in-Moved.tag c.in-Moved.stamp (sym c.in-Moved.is ∙ none)))).either in
     let low = λ (t : g.M.Nand.tells) (p : ℕ) (lt : p < bound). either_low (either t) p (subst (λ n. p < n) (sym (begins mid.segments)) lt) in
     let same = λ (t : g.M.Nand.tells). map_same old new d.vseg f.mapped (λ p lt. low t p (subst (λ n. p < n) f.segments.virtual_bound lt)) in
     record {
@@ -105,15 +135,12 @@ returns-in-Moved-clause-kept g c =
       next_stamp = refl;
       clock = e.counts.later;
     }
-  where
-    apart : (before after : ℕ) (tag : Tag) (stamp : ℕ) → copy.Moved before after tag stamp ≡ copy.Nothing → ⊥
-    apart before after tag stamp e = cc
 
 pub returns-in-Moved-clause-nothing : goal.returns-in-Moved-clause-nothing
 returns-in-Moved-clause-nothing g c =
     let b = c.begin-began.ensures in (
-      (λ is. absurd (cc is)),
-      (λ idle. absurd (cc (c.in-Moved.is, c.copy_one-answer.ensures.nothing.1 (idle_mid c.args.self.now.pseg c.begin-began.new.self c.begin-began.result b.cannot b.none c.requires.formed.spare.whole idle).1))),
+      (λ is. absurd (did_is_nothing is)),
+      (λ idle. absurd (moved_nothing _ _ _ _ (sym c.in-Moved.is ∙ c.copy_one-answer.ensures.nothing.1 (idle_mid c.args.self.now.pseg c.begin-began.new.self c.begin-began.result b.cannot b.none c.requires.formed.spare.whole idle).1))),
     )
 
 pub returns-in-Lost-clause-kept : goal.returns-in-Lost-clause-kept
@@ -126,7 +153,7 @@ returns-in-Lost-clause-kept g c =
     let new = g.M.Nand.contents c.copy_one-answer.new.media in
     let bound = d.shape.vblocks * d.shape.pages in
     let mid = taken_device f (λ t. g.met.M.Nand.contents_fit d.media t) c.begin-began.new.self false c.begin-began.result b.begun b.none b.whole b.kept b.segment b.spare in
-    let either = λ (t : g.M.Nand.tells). to_takes (may_copy ((e.medium t).crash (λ none. apart c.in-Lost.wanted c.in-Lost.found (sym c.in-Lost.is ∙ none)))).either in
+    let either = λ (t : g.M.Nand.tells). to_takes (may_copy ((e.medium t).crash (λ none. lost_nothing c.in-Lost.wanted c.in-Lost.found (sym c.in-Lost.is ∙ none)))).either in
     let low = λ (t : g.M.Nand.tells) (p : ℕ) (lt : p < bound). either_low (either t) p (subst (λ n. p < n) (sym (begins mid.segments)) lt) in
     let same = λ (t : g.M.Nand.tells). map_same old new d.vseg f.mapped (λ p lt. low t p (subst (λ n. p < n) f.segments.virtual_bound lt)) in
     record {
@@ -144,15 +171,12 @@ returns-in-Lost-clause-kept g c =
       next_stamp = refl;
       clock = e.counts.later;
     }
-  where
-    apart : (wanted found : ℕ) → copy.Lost wanted found ≡ copy.Nothing → ⊥
-    apart wanted found e = cc
 
 pub returns-in-Lost-clause-nothing : goal.returns-in-Lost-clause-nothing
 returns-in-Lost-clause-nothing g c =
     let b = c.begin-began.ensures in (
-      (λ is. absurd (cc is)),
-      (λ idle. absurd (cc (c.in-Lost.is, c.copy_one-answer.ensures.nothing.1 (idle_mid c.args.self.now.pseg c.begin-began.new.self c.begin-began.result b.cannot b.none c.requires.formed.spare.whole idle).1))),
+      (λ is. absurd (lost_is_nothing _ _ is)),
+      (λ idle. absurd (lost_nothing _ _ (sym c.in-Lost.is ∙ c.copy_one-answer.ensures.nothing.1 (idle_mid c.args.self.now.pseg c.begin-began.new.self c.begin-began.result b.cannot b.none c.requires.formed.spare.whole idle).1))),
     )
 
 pub returns-in-Fault-clause-kept : goal.returns-in-Fault-clause-kept
@@ -165,7 +189,7 @@ returns-in-Fault-clause-kept g c =
     let new = g.M.Nand.contents c.copy_one-answer.new.media in
     let bound = d.shape.vblocks * d.shape.pages in
     let mid = taken_device f (λ t. g.met.M.Nand.contents_fit d.media t) c.begin-began.new.self false c.begin-began.result b.begun b.none b.whole b.kept b.segment b.spare in
-    let either = λ (t : g.M.Nand.tells). to_takes (may_copy ((e.medium t).crash (λ none. apart (sym c.in-Fault.is ∙ none)))).either in
+    let either = λ (t : g.M.Nand.tells). to_takes (may_copy ((e.medium t).crash (λ none. fault_nothing (sym c.in-Fault.is ∙ none)))).either in
     let low = λ (t : g.M.Nand.tells) (p : ℕ) (lt : p < bound). either_low (either t) p (subst (λ n. p < n) (sym (begins mid.segments)) lt) in
     let same = λ (t : g.M.Nand.tells). map_same old new d.vseg f.mapped (λ p lt. low t p (subst (λ n. p < n) f.segments.virtual_bound lt)) in
     record {
@@ -183,15 +207,12 @@ returns-in-Fault-clause-kept g c =
       next_stamp = refl;
       clock = e.counts.later;
     }
-  where
-    apart : copy.Fault ≡ copy.Nothing → ⊥
-    apart e = cc
 
 pub returns-in-Fault-clause-nothing : goal.returns-in-Fault-clause-nothing
 returns-in-Fault-clause-nothing g c =
     let b = c.begin-began.ensures in (
-      (λ is. absurd (cc is)),
-      (λ idle. absurd (cc (c.in-Fault.is, c.copy_one-answer.ensures.nothing.1 (idle_mid c.args.self.now.pseg c.begin-began.new.self c.begin-began.result b.cannot b.none c.requires.formed.spare.whole idle).1))),
+      (λ is. absurd (fault_is_nothing is)),
+      (λ idle. absurd (fault_nothing (sym c.in-Fault.is ∙ c.copy_one-answer.ensures.nothing.1 (idle_mid c.args.self.now.pseg c.begin-began.new.self c.begin-began.result b.cannot b.none c.requires.formed.spare.whole idle).1))),
     )
 
 pub returns-in-Lost-clause-formed : goal.returns-in-Lost-clause-formed
@@ -203,10 +224,7 @@ returns-in-Lost-clause-formed g c =
     let mid = taken_device c.requires.formed fits c.begin-began.new.self false c.begin-began.result b.begun b.none b.whole b.kept b.segment b.spare in
     subst (λ k. IsDevice (g.M.Nand.geometry c.copy_one-answer.new.media) g.M.Nand.tells (g.M.Nand.contents c.copy_one-answer.new.media) d.shape d.vseg c.copy_one-answer.new.self d.pending k d.next) (sym c.forget_after-in-Lost.ensures)
     (unmoved_device mid e.geometry fits (λ t. g.met.M.Nand.contents_fit c.copy_one-answer.new.media t) c.copy_one-answer.new.self e.whole e.copies.kept_block (λ t. (e.medium t).segment) (λ t. (e.medium t).spare)
-    (λ t. may_copy ((e.medium t).crash (λ none. apart c.in-Lost.wanted c.in-Lost.found (sym c.in-Lost.is ∙ none)))) (c.in-Lost.ensures.copies.kept (λ moved. moved)))
-  where
-    apart : (wanted found : ℕ) → copy.Lost wanted found ≡ copy.Nothing → ⊥
-    apart wanted found e = cc
+    (λ t. may_copy ((e.medium t).crash (λ none. lost_nothing c.in-Lost.wanted c.in-Lost.found (sym c.in-Lost.is ∙ none)))) (c.in-Lost.ensures.copies.kept (λ moved. moved)))
 
 pub copy_one-answer-requires-clause-lands : goal.copy_one-answer-requires-clause-lands
 copy_one-answer-requires-clause-lands g c =
@@ -221,10 +239,7 @@ returns-else-began-clause-nothing g c =
 pub returns-then-began-clause-nothing : goal.returns-then-began-clause-nothing
 returns-then-began-clause-nothing g c =
     let b = c.begin-began.ensures in
-    ((λ is. absurd (other is)), (λ idle. absurd (true≢false (sym c.if-began.true ∙ (idle_mid c.args.self.now.pseg c.begin-began.new.self c.begin-began.result b.cannot b.none c.requires.formed.spare.whole idle).0))))
-  where
-    other : now.Did ≡ now.Nothing → ⊥
-    other e = cc
+    ((λ is. absurd (did_is_nothing is)), (λ idle. absurd (true≢false (sym c.if-began.true ∙ (idle_mid c.args.self.now.pseg c.begin-began.new.self c.begin-began.result b.cannot b.none c.requires.formed.spare.whole idle).0))))
 
 pub returns-then-began-clause-formed : goal.returns-then-began-clause-formed
 returns-then-began-clause-formed g c =
@@ -364,7 +379,7 @@ returns-then-began-clause-clock g c =
     copy_ticks _ c.in-Nothing.ensures.counts refl refl b.clean (λ m. absurd (not_copied d.pseg c.copy_one-answer.new.self m.taken (ap (λ (s : Physical). s.pairs) (c.copy_one-answer.ensures.refused c.in-Nothing.is).0 ∙ tables.1) m.takes m.space)) (λ un. inl (λ moved. moved))
 
 pub returns-then-began-clause-faults : goal.returns-then-began-clause-faults
-returns-then-began-clause-faults g c = copy_counted c.copy_one-answer.ensures.counts (λ fault. absurd (cc fault)) (λ fault. absurd (cc (fault, c.in-Nothing.is)))
+returns-then-began-clause-faults g c = copy_counted c.copy_one-answer.ensures.counts (λ fault. absurd (did_is_fault fault)) (λ fault. absurd (nothing_fault (sym c.in-Nothing.is ∙ fault)))
 
 pub returns-else-began-clause-left : goal.returns-else-began-clause-left
 returns-else-began-clause-left g c t = inr (returns-else-began-clause-none g c refl).medium
@@ -380,7 +395,7 @@ returns-else-began-clause-clock g c =
     copy_ticks _ c.in-Nothing.ensures.counts refl refl b.clean (λ m. absurd (not_copied d.pseg c.copy_one-answer.new.self m.taken (ap (λ (s : Physical). s.pairs) (c.copy_one-answer.ensures.refused c.in-Nothing.is).0 ∙ tables.1) m.takes m.space)) (λ un. inl (λ moved. moved))
 
 pub returns-else-began-clause-faults : goal.returns-else-began-clause-faults
-returns-else-began-clause-faults g c = copy_counted c.copy_one-answer.ensures.counts (λ fault. absurd (cc fault)) (λ fault. absurd (cc (fault, c.in-Nothing.is)))
+returns-else-began-clause-faults g c = copy_counted c.copy_one-answer.ensures.counts (λ fault. absurd (nothing_is_fault fault)) (λ fault. absurd (nothing_fault (sym c.in-Nothing.is ∙ fault)))
 
 pub returns-in-Moved-clause-lands : goal.returns-in-Moved-clause-lands
 returns-in-Moved-clause-lands g c = ⊎_elim (λ rose. inl rose) (λ room. inr (land_can c.copy_one-answer.new.self room)) c.copy_one-answer.ensures.lands
@@ -389,7 +404,7 @@ pub returns-in-Moved-clause-clock : goal.returns-in-Moved-clause-clock
 returns-in-Moved-clause-clock g c = copy_ticks _ c.in-Moved.ensures.counts refl refl c.begin-began.ensures.clean (λ m. tt) (λ un. inr (⊎_elim (λ m. absurd (un m)) (λ begun. begun.0.medium.clock) (returns-in-Moved-clause-did g c refl)))
 
 pub returns-in-Moved-clause-faults : goal.returns-in-Moved-clause-faults
-returns-in-Moved-clause-faults g c = copy_counted c.copy_one-answer.ensures.counts (λ fault. absurd (cc fault)) (λ fault. absurd (cc (fault, c.in-Moved.is)))
+returns-in-Moved-clause-faults g c = copy_counted c.copy_one-answer.ensures.counts (λ fault. absurd (did_is_fault fault)) (λ fault. absurd (moved_fault _ _ _ _ (sym c.in-Moved.is ∙ fault)))
 
 pub returns-in-Moved-clause-left : goal.returns-in-Moved-clause-left
 returns-in-Moved-clause-left g c t =
@@ -415,7 +430,7 @@ returns-in-Moved-clause-left g c t =
     let call = callback_of c.post.result before after h.tag h.stamp in
     let names : Copies call (names_with d.pseg d.pending) (names_with new c.post.new.self) = copies_from call d.pseg seg d.pending (names_with new c.post.new.self) tables.0 tables.1
     (copies before after c.post.result h.tag h.stamp seg new d.pending c.post.new.self m within below p.fresh p.next (subst (λ n. n < 2 ^ 64) c.posted.ensures c.posted.type_inv) (ap (λ (x : PendingTable). x.callbacks) p.posted) (ap (λ (x : PendingTable). x.posted) p.posted)) in
-    let k : CrashesMove g.M.Nand.clock g.M.Nand.contents g.M.Nand.left seg d.media c.copy_one-answer.new.media (copy.Moved before after h.tag h.stamp) = (c.in-Moved.ensures.medium t).crash (apart before after h.tag h.stamp) in
+    let k : CrashesMove g.M.Nand.clock g.M.Nand.contents g.M.Nand.left seg d.media c.copy_one-answer.new.media (copy.Moved before after h.tag h.stamp) = (c.in-Moved.ensures.medium t).crash (moved_nothing before after h.tag h.stamp) in
     let is_before : before ≡ k.before = k.moved.0 in
     let is_h : h ≡ k.h = k.moved.1 in
     let is_page : after ≡ k.crash.page = ap (λ (at : Pointer). at.name) k.crash.named in
@@ -442,9 +457,6 @@ returns-in-Moved-clause-left g c t =
         ),
       );
     })
-  where
-    apart : (before after : ℕ) (tag : Tag) (stamp : ℕ) → copy.Moved before after tag stamp ≡ copy.Nothing → ⊥
-    apart before after tag stamp e = cc
 
 pub returns-in-Lost-clause-failed : goal.returns-in-Lost-clause-failed
 returns-in-Lost-clause-failed g c un_did un_nothing =
@@ -452,16 +464,13 @@ returns-in-Lost-clause-failed g c un_did un_nothing =
     let b = c.begin-began.ensures in
     let e = c.copy_one-answer.ensures in
     let m = c.in-Lost.ensures.copies.kept (λ moved. moved) in
-    let space = failed_space d.pseg c.begin-began.new.self c.copy_one-answer.new.self c.begin-began.result b.begun b.none m b.whole e.whole (λ none. apart c.in-Lost.wanted c.in-Lost.found (sym c.in-Lost.is ∙ e.nothing.1 none)) in
+    let space = failed_space d.pseg c.begin-began.new.self c.copy_one-answer.new.self c.begin-began.result b.begun b.none m b.whole e.whole (λ none. lost_nothing c.in-Lost.wanted c.in-Lost.found (sym c.in-Lost.is ∙ e.nothing.1 none)) in
     record {
       tables = failed_tables d.pseg c.begin-began.new.self c.copy_one-answer.new.self c.begin-began.result d.pending b.begun b.none m;
       taken = space_of c.begin-began.new.self;
       takes = space.0;
       space = space.1;
     }
-  where
-    apart : (wanted found : ℕ) → copy.Lost wanted found ≡ copy.Nothing → ⊥
-    apart wanted found e = cc
 
 pub returns-in-Lost-clause-left : goal.returns-in-Lost-clause-left
 returns-in-Lost-clause-left g c t =
@@ -474,7 +483,7 @@ returns-in-Lost-clause-left g c t =
     let mid = taken_device c.requires.formed fits seg false c.begin-began.result b.begun b.none b.whole b.kept b.segment b.spare in
     let tables = mid_tables d.pseg seg c.begin-began.result b.begun b.none in
     let kept : MovesNone seg new = c.in-Lost.ensures.copies.kept (λ moved. moved) in
-    let k : CrashesMove g.M.Nand.clock g.M.Nand.contents g.M.Nand.left seg d.media c.copy_one-answer.new.media (copy.Lost c.in-Lost.wanted c.in-Lost.found) = (c.in-Lost.ensures.medium t).crash (apart c.in-Lost.wanted c.in-Lost.found) in
+    let k : CrashesMove g.M.Nand.clock g.M.Nand.contents g.M.Nand.left seg d.media c.copy_one-answer.new.media (copy.Lost c.in-Lost.wanted c.in-Lost.found) = (c.in-Lost.ensures.medium t).crash (lost_nothing c.in-Lost.wanted c.in-Lost.found) in
     let fit = subst (λ n. ImageOf n (g.M.Nand.contents c.copy_one-answer.new.media)) e.geometry (g.met.M.Nand.contents_fit c.copy_one-answer.new.media t) in
     inl (record {
       stops = lift (λ d. d.media) _ _ k.crash.crash (λ m image l turned.
@@ -488,9 +497,6 @@ returns-in-Lost-clause-left g c t =
         copy_left mid t (fits t) k.before k.crash.page k.h k.was d.pseg tables.0 tables.1 (g.M.Nand.contents c.copy_one-answer.new.media) fit k.crash.either,
       );
     })
-  where
-    apart : (wanted found : ℕ) → copy.Lost wanted found ≡ copy.Nothing → ⊥
-    apart wanted found e = cc
 
 pub returns-in-Lost-clause-lands : goal.returns-in-Lost-clause-lands
 returns-in-Lost-clause-lands g c = ⊎_elim (λ rose. inl rose) (λ room. inr (land_can c.copy_one-answer.new.self room)) c.copy_one-answer.ensures.lands
@@ -504,7 +510,7 @@ returns-in-Lost-clause-clock g c =
     copy_ticks _ c.in-Lost.ensures.counts refl refl b.clean (λ m. absurd (not_copied d.pseg c.copy_one-answer.new.self m.taken (kept.tables.same_pairs ∙ tables.1) m.takes m.space)) (λ un. inl (λ moved. moved))
 
 pub returns-in-Lost-clause-faults : goal.returns-in-Lost-clause-faults
-returns-in-Lost-clause-faults g c = copy_counted c.copy_one-answer.ensures.counts (λ fault. absurd (cc fault)) (λ fault. absurd (cc (fault, c.in-Lost.is)))
+returns-in-Lost-clause-faults g c = copy_counted c.copy_one-answer.ensures.counts (λ fault. absurd (lost_is_fault _ _ fault)) (λ fault. absurd (lost_fault _ _ (sym c.in-Lost.is ∙ fault)))
 
 pub returns-in-Lost-clause-told : goal.returns-in-Lost-clause-told
 returns-in-Lost-clause-told g c t w found is = (c.copy_one-answer.ensures.medium t).told c.in-Lost.wanted c.in-Lost.found c.in-Lost.is
@@ -524,16 +530,13 @@ returns-in-Fault-clause-failed g c un_did un_nothing =
     let b = c.begin-began.ensures in
     let e = c.copy_one-answer.ensures in
     let m = c.in-Fault.ensures.copies.kept (λ moved. moved) in
-    let space = failed_space d.pseg c.begin-began.new.self c.copy_one-answer.new.self c.begin-began.result b.begun b.none m b.whole e.whole (λ none. apart (sym c.in-Fault.is ∙ e.nothing.1 none)) in
+    let space = failed_space d.pseg c.begin-began.new.self c.copy_one-answer.new.self c.begin-began.result b.begun b.none m b.whole e.whole (λ none. fault_nothing (sym c.in-Fault.is ∙ e.nothing.1 none)) in
     record {
       tables = failed_tables d.pseg c.begin-began.new.self c.copy_one-answer.new.self c.begin-began.result d.pending b.begun b.none m;
       taken = space_of c.begin-began.new.self;
       takes = space.0;
       space = space.1;
     }
-  where
-    apart : copy.Fault ≡ copy.Nothing → ⊥
-    apart e = cc
 
 pub returns-in-Fault-clause-left : goal.returns-in-Fault-clause-left
 returns-in-Fault-clause-left g c t =
@@ -546,7 +549,7 @@ returns-in-Fault-clause-left g c t =
     let mid = taken_device c.requires.formed fits seg false c.begin-began.result b.begun b.none b.whole b.kept b.segment b.spare in
     let tables = mid_tables d.pseg seg c.begin-began.result b.begun b.none in
     let kept : MovesNone seg new = c.in-Fault.ensures.copies.kept (λ moved. moved) in
-    let k : CrashesMove g.M.Nand.clock g.M.Nand.contents g.M.Nand.left seg d.media c.copy_one-answer.new.media copy.Fault = (c.in-Fault.ensures.medium t).crash (apart) in
+    let k : CrashesMove g.M.Nand.clock g.M.Nand.contents g.M.Nand.left seg d.media c.copy_one-answer.new.media copy.Fault = (c.in-Fault.ensures.medium t).crash fault_nothing in
     let fit = subst (λ n. ImageOf n (g.M.Nand.contents c.copy_one-answer.new.media)) e.geometry (g.met.M.Nand.contents_fit c.copy_one-answer.new.media t) in
     inl (record {
       stops = lift (λ d. d.media) _ _ k.crash.crash (λ m image l turned.
@@ -560,9 +563,6 @@ returns-in-Fault-clause-left g c t =
         copy_left mid t (fits t) k.before k.crash.page k.h k.was d.pseg tables.0 tables.1 (g.M.Nand.contents c.copy_one-answer.new.media) fit k.crash.either,
       );
     })
-  where
-    apart : copy.Fault ≡ copy.Nothing → ⊥
-    apart e = cc
 
 pub returns-in-Fault-clause-lands : goal.returns-in-Fault-clause-lands
 returns-in-Fault-clause-lands g c = ⊎_elim (λ rose. inl rose) (λ room. inr (land_can c.copy_one-answer.new.self room)) c.copy_one-answer.ensures.lands

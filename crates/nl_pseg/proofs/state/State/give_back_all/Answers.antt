@@ -2,7 +2,7 @@ use Rattle.nl_pseg.specs.declared.held.Held.{Held}
 use Rattle.nl_pseg.specs.Kept.{kept}
 use Rattle.nl_pseg.specs.Steps.{AreGivenBack}
 use Rattle.nl_pseg.specs.Seen.{seen}
-use Rattle.std.proofs.Common.{arith, List, Option, None, get_or, sym, ◌∙◌, ap, subst}
+use Rattle.std.proofs.Common.{◌≡◌, arith, List, Option, None, get_or, sym, ◌∙◌, ap, subst}
 use Rattle.nl_pseg.proofs.GivenBack.{given_more, given_none}
 use Rattle.nl_pseg.proofs.state.State.give_back_all.Goals as goal
 
@@ -33,3 +33,19 @@ give_back-requires-clause-none c page = ap (λ (l : List (Option Held)). get_or 
 
 pub give_back-requires-clause-no_victim : goal.give_back-requires-clause-no_victim
 give_back-requires-clause-no_victim c = c.loop-block.invariant.given.victim ∙ c.requires.no_victim
+
+pub returns-clause-formed : goal.returns-clause-formed
+returns-clause-formed c = c.loop-block.invariant.formed
+
+pub returns-clause-tied : goal.returns-clause-tied
+returns-clause-tied c = c.loop-block.invariant.tied
+
+pub returns-clause-given : goal.returns-clause-given
+returns-clause-given c =
+    let s = seen (kept c.args.self.now) in
+    let past = c.loop-block-test.false in
+    let most = c.loop-block.auto.block-end (omega arith) in
+    let first = c.first-first.ensures in
+    let count = c.count.ensures.value in
+    let end : c.loop-block.block ≡ s.blocks = omega arith in
+    subst (λ n. AreGivenBack n s (seen (kept c.loop-block.self))) end c.loop-block.invariant.given

@@ -1,7 +1,8 @@
 use Rattle.nl_pseg.proofs.Small.{fewer_with}
-use Rattle.std.proofs.Common.{◌≡◌, inl, inr, ⊎_elim, ◌+◌, ◌*◌, ◌/◌, ◌<◌, false, List, Option, Some, None, length, set, get_or, refl, sym, ◌∙◌, ap, subst, arith, cond}
+use Rattle.std.proofs.Common.{◌≡◌, inl, inr, ⊎_elim, ◌+◌, ◌*◌, ◌/◌, ◌<◌, ◌≤◌, false, List, Option, Some, None, length, set, get_or, refl, sym, ◌∙◌, ap, subst, arith, cond}
 use Rattle.std.specs.Vec.{with_item}
 use Rattle.std.proofs.lemmas.List.{get_or-set_other}
+use Rattle.std.proofs.lemmas.Nat.{div_below, le-div}
 use Rattle.std.proofs.lemmas.Option.{none-some}
 use Rattle.std.proofs.lemmas.Bool.{cases_eq, true≢false}
 use Rattle.nl_blocks.specs.Table.{block_at, free_count}
@@ -157,3 +158,39 @@ returns-clause-loads c =
       erased = λ p taken. let out = apart_taken apart p taken in (e.erased p out.0, λ at. out.1 (at ∙ ap (λ k. c.args.page / k) (sym c.pages.ensures)));
       still = λ p taken ne. let away : p / s.blocks.size ≡ block → ⊥ = (λ at. ne (at ∙ ap (λ k. c.args.page / k) c.pages.ensures)) in apart_still apart p (e.still p taken away) away;
     }
+
+pub nonzero_div-block : goal.nonzero_div-block
+nonzero_div-block c =
+    let some = c.requires.formed.some in
+    let size = c.pages.ensures in
+    omega arith
+
+pub shut-requires : goal.shut-requires
+shut-requires c =
+    let t = c.args.self.now.blocks in
+    let some = c.requires.formed.some in
+    let within = c.requires.dead.within in
+    let at : c.args.page / t.size ≡ c.args.page / c.pages.result = ap (λ k. c.args.page / k) (sym c.pages.ensures) in
+    record {
+      from = subst (λ b. t.first ≤ b) at (le-div t.first c.args.page t.size some within.0);
+      below = subst (λ b. b < t.first + length t.blocks) at (div_below c.args.page t.size (t.first + length t.blocks) some within.1);
+    }
+
+pub mark-requires-clause-has : goal.mark-requires-clause-has
+mark-requires-clause-has c =
+    let t = c.args.self.now.blocks in
+    let n = c.shut.ensures.restated.numbers in
+    let some = c.requires.formed.some in
+    let within = c.requires.dead.within in
+    let at : c.args.page / c.shut.new.blocks.size ≡ c.args.page / t.size = ap (λ k. c.args.page / k) n.same_size in
+    let from = le-div t.first c.args.page t.size some within.0 in
+    let below = div_below c.args.page t.size (t.first + length t.blocks) some within.1 in
+    let first = n.same_first in
+    let count = n.same_count in
+    record { from = omega (arith, at, from, first); below = omega (arith, at, below, first, count) }
+
+pub index_mut-requires : goal.index_mut-requires
+index_mut-requires c =
+    let count = c.requires.formed.pages in
+    let below = c.requires.dead.within.1 in
+    omega (arith, count, below)
