@@ -2,7 +2,7 @@ use Rattle.std.proofs.Common.{◌≡◌, ℕ, ◌+◌, ◌*◌, ◌/◌, ◌<◌
 use Rattle.std.proofs.Math.Nat.{div-mul-le_self, lt-div-mul-add}
 use Rattle.nl_field.specs.Page.{Image}
 use Rattle.nl_nand.specs.Nand.{CanProgram, ErasedWithin}
-use Rattle.nl_test_recover_pointers.proofs.medium.put.Goals as goal
+use Rattle.nl_test_check.proofs.medium.put.Goals as goal
 
 can : (image : Image) (page : ℕ) → image.pages ≡ 32 → page < 1024 → ErasedWithin image page 1024 → CanProgram image page
 can image page pages within erased =

@@ -3,8 +3,8 @@ ghost use Rattle.std.specs.Prelude.{◌≡◌};
 ghost use Rattle.nl_nand.specs.Memory.{geometry_of, contents_of};
 ghost use Rattle.nl_nand.specs.Nand.{ErasedWithin};
 
-use crate::medium::{formed, put};
-use nl_field::{Memory, PageBuf, Pointer, PointerList, Shape, SpareRec, Tag, shape_of, spare_into};
+use crate::medium::{formed, put, spare_with};
+use nl_field::{Memory, PageBuf, Pointer, PointerList, Shape, SpareRec, Tag, shape_of};
 use nl_nand::{MemNand, WriteAnswer};
 use nl_recover_pointers::{
     HeldList, HeldPointer, charge_fault, crowded_fault, name_fault, pointer_fault,
@@ -62,16 +62,8 @@ fn held(size: u64, tag: Tag, name: u32, stamp: u64) -> HeldPointer {
 }
 
 fn fill(row: &Row, buf: &mut PageBuf) {
-    let mut spare = [0u8; 64];
-    let stamp = match row.rec {
-        SpareRec::Virtual { stamp, .. } => stamp,
-        SpareRec::Physical { stamp, .. } => stamp,
-    };
-    if 1 <= stamp && stamp < 1 << 63 {
-        spare_into(&row.rec, &mut spare);
-    }
     buf.clear();
-    buf.set_spare(&spare);
+    buf.set_spare(&spare_with(&row.rec));
     if 0 < row.bytes && row.bytes <= 4096 {
         buf.set_main(row.bytes - 1, &[7]);
     }

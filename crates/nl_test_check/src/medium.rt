@@ -1,9 +1,9 @@
-// A medium that is written page by page.
+// A medium that is written page by page, and the spare bytes of a page.
 ghost use Rattle.std.specs.Prelude.{◌≡◌, ◌+◌, ◌<◌, IfSome};
 ghost use Rattle.nl_nand.specs.Memory.{contents_of, geometry_of};
 ghost use Rattle.nl_nand.specs.Nand.{ErasedWithin};
 
-use nl_field::{FailList, PageBuf};
+use nl_field::{FailList, PageBuf, SpareRec, spare_into};
 use nl_nand::{FormAnswer, MemNand, Nand, WriteAnswer};
 use std::alloc::Global;
 
@@ -28,4 +28,17 @@ pub fn put(media: &mut MemNand, page: u32, buf: &PageBuf) -> WriteAnswer
     ensures erased { ErasedWithin (contents_of media.new) (page + 1) 1024 }
 {
     media.program(page, buf)
+}
+
+/// The spare bytes of a page with this record; zeros where its write sequence number is none.
+pub fn spare_with(rec: &SpareRec) -> [u8; 64] {
+    let mut spare = [0u8; 64];
+    let stamp = match *rec {
+        SpareRec::Virtual { stamp, .. } => stamp,
+        SpareRec::Physical { stamp, .. } => stamp,
+    };
+    if 1 <= stamp && stamp < 1 << 63 {
+        spare_into(rec, &mut spare);
+    }
+    spare
 }

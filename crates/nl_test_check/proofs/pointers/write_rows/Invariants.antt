@@ -1,7 +1,7 @@
 use Rattle.std.proofs.Common.{◌≡◌}
 use Rattle.nl_nand.specs.Memory.{geometry_of, contents_of}
 use Rattle.nl_nand.specs.Nand.{ErasedWithin}
-use Rattle.nl_test_recover_pointers.proofs.pointers.write_rows.Given as goal
+use Rattle.nl_test_check.proofs.pointers.write_rows.Given as goal
 
 -- the pages behind those that were written are erased
 abbrev pub invariant-rows : goal.invariant-rows
