@@ -1,7 +1,7 @@
 use Rattle.std.proofs.Common.{◌≡◌, ap, sym, ◌∙◌, arith}
 use Rattle.nl_field.specs.Numbers.{shape_for}
 use Rattle.nl_nand.specs.declared.geometry.Geometry.{Geometry}
-use Rattle.nl_test_device_pages.proofs.journal.opened.Goals as goal
+use Rattle.nl_test_device.proofs.journal.opened.Goals as goal
 
 pub read_all-stopped-requires-clause-numbers : goal.read_all-stopped-requires-clause-numbers
 read_all-stopped-requires-clause-numbers c =

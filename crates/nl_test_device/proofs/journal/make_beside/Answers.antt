@@ -4,8 +4,8 @@ use Rattle.nl_journal.specs.Progress.{Progress}
 use Rattle.nl_journal.specs.Restoring.{HasRestored}
 use Rattle.nl_journal.specs.declared.answers.Phase.TheVariants.{Header, Home}
 use Rattle.nl_journal.specs.declared.answers.ReadBack.TheVariants as back
-use Rattle.nl_test_device_pages.proofs.Standing.{begun-order, least-addresses}
-use Rattle.nl_test_device_pages.proofs.journal.make_beside.Goals as goal
+use Rattle.nl_test_device.proofs.Standing.{begun-order, least-addresses}
+use Rattle.nl_test_device.proofs.journal.make_beside.Goals as goal
 
 pub bring_back-requires-clause-shape : goal.bring_back-requires-clause-shape
 bring_back-requires-clause-shape c = c.in-Some.ensures.numbers ∙ sym c.requires.numbers

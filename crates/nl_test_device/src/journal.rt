@@ -1,18 +1,20 @@
+// Two commits of the journal over a device, on a medium that stops, and what an opening finds then.
 ghost use Rattle.std.specs.Prelude.{◌≡◌, ◌<◌, ◌≤◌, [], ◌∷◌, IfOk, IsSome, IsTrue, length};
 ghost use Rattle.nl_field.specs.Numbers.{shape_for};
 ghost use Rattle.nl_meta.specs.Pages.{with_address};
 ghost use Rattle.nl_nand.specs.Memory.{contents_of, geometry_of};
 ghost use Rattle.nl_iface.specs.Stored.{NoneFailed};
 ghost use Rattle.nl_nand.specs.Nand.{IsBlank};
-ghost use Rattle.nl_test_device_pages.specs.Standing.{IsLeastDevice};
+ghost use Rattle.nl_test_device.specs.Standing.{IsLeastDevice};
 
-use crate::device::{blank, started};
+use crate::blank_device::started;
 use nl_device::{Device, Started};
 use nl_field::{FailList, Memory, PageBuf, VirtualRead, shape_of};
 use nl_iface::{Counts, MovingPages, VirtualPages};
 use nl_journal::{Committing, Journal, ReadBack};
 use nl_meta::Meta;
 use nl_nand::{Cut, MemNand, Nand, Stop};
+use nl_test_device_segments::medium::blank;
 use std::alloc::Global;
 
 /// The pages that are committed: the super page, two of nodes, and the first and the last of the pool.
@@ -38,7 +40,9 @@ pub struct Stopped {
 /// Two commits of five pages each, the first of pages that begin with 1 and the second with 2, on a medium that stops within an
 /// operation. What an opening finds afterwards.
 pub fn stopped_at(alloc: Global, operation: u64, cut: Cut) -> Result<Stopped, Memory> {
-    let media = blank(alloc, FailList::new(alloc), Some(Stop { operation, cut }))?;
+    let none = FailList::new(alloc);
+    let stop = Stop { operation, cut };
+    let media = blank(alloc, none, FailList::new(alloc), Some(stop))?;
     let mut volume = begin(alloc, media)?;
     if commit_all(&mut volume, 1) {
         commit_all(&mut volume, 2);

@@ -1,6 +1,6 @@
 use Rattle.std.proofs.Common.{sym, ◌∙◌}
-use Rattle.nl_test_device_pages.proofs.Standing.{least-addresses}
-use Rattle.nl_test_device_pages.proofs.journal.read_all.Goals as goal
+use Rattle.nl_test_device.proofs.Standing.{least-addresses}
+use Rattle.nl_test_device.proofs.journal.read_all.Goals as goal
 
 pub read_back-found-requires-clause-shape : goal.read_back-found-requires-clause-shape
 read_back-found-requires-clause-shape c = c.in-Some.ensures.numbers ∙ sym c.requires.numbers

@@ -1,13 +1,15 @@
+// A page of nodes that is written and then fetched, twice, with a read that fails.
 ghost use Rattle.std.specs.Prelude.{◌≡◌, ◌<◌, ◌≤◌, IfOk, length};
 ghost use Rattle.nl_field.specs.Numbers.{shape_for};
 
-use crate::device::{blank, started};
+use crate::blank_device::started;
 use nl_device::Device;
 use nl_field::{FailList, Memory, PageBuf, VirtualWrite, shape_of};
 use nl_iface::{Counts, MovingPages, VirtualPages};
 use nl_inode::{Fetch, fetch};
 use nl_meta::Meta;
 use nl_nand::MemNand;
+use nl_test_device_segments::medium::blank;
 use std::alloc::Global;
 
 /// What a fetch answers, the first byte of the page where it is resident then, and how many pages are.
@@ -26,7 +28,7 @@ pub fn fetched_twice(alloc: Global, vaddr: u32, failing: u32) -> Result<[Fetched
 {
     let mut reads = FailList::new(alloc);
     reads.push(1024 + u64::from(failing))?;
-    let media = blank(alloc, reads, None)?;
+    let media = blank(alloc, reads, FailList::new(alloc), None)?;
     let mut device = started(alloc, media)?;
     let fetched = write_and_fetch(alloc, &mut device, vaddr);
     drop(device);

@@ -1,7 +1,7 @@
 use Rattle.std.proofs.Common.{ap, refl, ◌∙◌, List, ℕ}
 use Rattle.nl_meta.specs.Pages.{with_address}
-use Rattle.nl_test_device_pages.proofs.Standing.{five-rise}
-use Rattle.nl_test_device_pages.proofs.journal.put_all.Goals as goal
+use Rattle.nl_test_device.proofs.Standing.{five-rise}
+use Rattle.nl_test_device.proofs.journal.put_all.Goals as goal
 
 pub returns-clause-dirty : goal.returns-clause-dirty
 returns-clause-dirty c = λ e.

@@ -1,6 +1,6 @@
 use Rattle.std.proofs.Common.{sym, ◌∙◌, arith}
-use Rattle.nl_test_device_pages.proofs.Standing.{least-addresses, least-inodes}
-use Rattle.nl_test_device_pages.proofs.fetching.fetch_one.Goals as goal
+use Rattle.nl_test_device.proofs.Standing.{least-addresses, least-inodes}
+use Rattle.nl_test_device.proofs.fetching.fetch_one.Goals as goal
 
 pub fetch-answer-requires-clause-within : goal.fetch-answer-requires-clause-within
 fetch-answer-requires-clause-within c = let a = least-addresses _ c.requires.numbers in let h = c.requires.high in omega (arith, a, h)

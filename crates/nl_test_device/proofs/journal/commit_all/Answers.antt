@@ -1,8 +1,8 @@
 use Rattle.std.proofs.Common.{ap, refl, sym, subst, ◌∙◌, length, List, Option, ℕ}
 use Rattle.nl_meta.specs.Pages.{dirty_pages}
 use Rattle.nl_journal.specs.Transaction.{IsTransaction}
-use Rattle.nl_test_device_pages.proofs.Standing.{five-transaction, least-addresses}
-use Rattle.nl_test_device_pages.proofs.journal.commit_all.Goals as goal
+use Rattle.nl_test_device.proofs.Standing.{five-transaction, least-addresses}
+use Rattle.nl_test_device.proofs.journal.commit_all.Goals as goal
 
 pub commit-requires-clause-dirty : goal.commit-requires-clause-dirty
 commit-requires-clause-dirty c =

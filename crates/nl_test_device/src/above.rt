@@ -1,4 +1,4 @@
-// Tests of commits that are stopped, and of fetches whose read fails.
+// Tests of the crates above a device: commits that are stopped, and fetches whose read fails.
 use crate::fetching::{Fetched, fetched_twice};
 use crate::journal::{Stopped, stopped_at};
 use nl_field::Memory;

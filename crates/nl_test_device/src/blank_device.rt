@@ -1,3 +1,4 @@
+// A device that was started on a blank medium, with what it says of itself then.
 ghost use Rattle.std.specs.Prelude.{◌≡◌, [], IfOk};
 ghost use Rattle.nl_field.specs.Numbers.{shape_for};
 ghost use Rattle.nl_iface.specs.Stored.{NoneFailed};
@@ -5,24 +6,12 @@ ghost use Rattle.nl_nand.specs.Memory.{contents_of, geometry_of};
 ghost use Rattle.nl_nand.specs.Nand.{IsBlank};
 
 use nl_device::{Device, Started};
-use nl_field::{FailList, Memory};
+use nl_field::Memory;
 use nl_iface::Counts;
-use nl_nand::{FormAnswer, MemNand, Nand, Stop};
+use nl_nand::MemNand;
 use std::alloc::Global;
 
-/// A blank medium of 32 blocks of 32 pages, whose reads of these numbers fail, and which stops where it is told.
-pub fn blank(alloc: Global, reads: FailList, stop: Option<Stop>) -> Result<MemNand, Memory>
-    ensures numbers { IfOk result (λ m. geometry_of m ≡ record { blocks = 32; pages = 32 }) }
-    ensures erased { IfOk result (λ m. IsBlank (contents_of m)) }
-{
-    let mut media = MemNand::new(alloc, reads, FailList::new(alloc), stop);
-    match media.form(32, 32) {
-        FormAnswer::Done => Ok(media),
-        _ => Err(Memory),
-    }
-}
-
-/// The device of such a medium.
+/// The device of a blank medium of 32 blocks of 32 pages.
 pub fn started(alloc: Global, media: MemNand) -> Result<Device<MemNand>, Memory>
     requires numbers { geometry_of media ≡ record { blocks = 32; pages = 32 } }
     requires erased { IsBlank (contents_of media) }

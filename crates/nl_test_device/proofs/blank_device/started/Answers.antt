@@ -3,8 +3,8 @@ use Rattle.nl_field.specs.Numbers.{shape_for}
 use Rattle.nl_nand.specs.Memory.{contents_of}
 use Rattle.nl_nand.specs.declared.geometry.Geometry.{Geometry}
 use Rattle.nl_test_device.proofs.Blank.{blank_spare}
-use Rattle.nl_test_device_pages.proofs.Standing.{none-agree}
-use Rattle.nl_test_device_pages.proofs.device.started.Goals as goal
+use Rattle.nl_test_device.proofs.Standing.{none-agree}
+use Rattle.nl_test_device.proofs.blank_device.started.Goals as goal
 
 pub returns-then-len-eq0-clause-numbers : goal.returns-then-len-eq0-clause-numbers
 returns-then-len-eq0-clause-numbers c = c.in-Ready.ensures.started.numbers ∙ ap (λ (n : Geometry). shape_for n.blocks n.pages) c.requires.numbers
