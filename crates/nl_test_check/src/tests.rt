@@ -1,11 +1,12 @@
+// Small images, byte by byte, and what is found of them where they have a change or two. All tests of checks make their images here.
 ghost use Rattle.std.specs.Prelude.{◌≡◌};
 ghost use Rattle.nl_nand.specs.Memory.{geometry_of, contents_of};
 ghost use Rattle.nl_nand.specs.Nand.{ErasedWithin};
 
+use crate::medium::{formed, put, spare_with};
 use nl_check::{Checked, findings};
-use nl_field::{FailList, Findings, Memory, PageBuf, SpareRec, Tag, What, spare_into};
+use nl_field::{FailList, Findings, Memory, PageBuf, SpareRec, Tag, What};
 use nl_nand::{MemNand, WriteAnswer};
-use nl_test_recover_pointers::medium::{formed, put};
 use std::alloc::Global;
 use std::test::Fail;
 
@@ -207,41 +208,28 @@ fn write(what: &Content, bytes: &[Bytes], buf: &mut PageBuf) {
     }
 }
 
-fn spare(what: &Content, out: &mut [u8; 64]) {
+fn record_of(what: &Content) -> SpareRec {
     match *what {
-        Content::Metadata { vaddr, stamp } => {
-            if 1 <= stamp && stamp < 1 << 63 {
-                let rec = SpareRec::Virtual {
-                    vaddr,
-                    stamp,
-                    wear: 0,
-                };
-                spare_into(&rec, out);
-            }
-        }
-        Content::Data { index, stamp, .. } => {
-            if 1 <= stamp && stamp < 1 << 63 {
-                let tag = Tag {
-                    ino: 1,
-                    generation: 1,
-                    index,
-                };
-                let rec = SpareRec::Physical {
-                    tag,
-                    stamp,
-                    wear: 0,
-                };
-                spare_into(&rec, out);
-            }
-        }
+        Content::Metadata { vaddr, stamp } => SpareRec::Virtual {
+            vaddr,
+            stamp,
+            wear: 0,
+        },
+        Content::Data { index, stamp, .. } => SpareRec::Physical {
+            tag: Tag {
+                ino: 1,
+                generation: 1,
+                index,
+            },
+            stamp,
+            wear: 0,
+        },
     }
 }
 
 fn fill(what: &Content, bytes: &[Bytes], buf: &mut PageBuf) {
-    let mut out = [0u8; 64];
-    spare(what, &mut out);
     buf.clear();
-    buf.set_spare(&out);
+    buf.set_spare(&spare_with(&record_of(what)));
     write(what, bytes, buf);
 }
 

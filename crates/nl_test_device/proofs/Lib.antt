@@ -1,4 +1,5 @@
-pub mod Blank
-pub mod Landing
-pub mod Reopened
-pub mod Retaining
+mod Blank
+mod Landing
+mod Reopened
+mod Retaining
+mod Standing

@@ -1,2 +1,5 @@
-pub mod Blank
-pub mod Opened
+mod Beginning
+mod Blank
+mod Dirty
+mod OneFile
+mod Opened

@@ -5,12 +5,12 @@ ghost use Rattle.nl_namespace.specs.Calls.{PathsHaveNames, IsOfNames};
 
 use crate::asserting::assert_none_differs;
 use crate::calls::Seen;
+use crate::device::Stamps;
 use crate::paths::{Names, Series, path_of};
 use crate::volume::{After, Volume, change_names, list_names, make_all, opened, reopened};
 use crate::writer::{Fresh, begun, format};
 use nl_field::{Memory, PageBuf, Shape, shape_of};
 use nl_scan::ScanTables;
-use nl_test_files::device::Stamps;
 use nl_tree::{Call, Refusal, Space};
 use std::alloc::Global;
 

@@ -4,6 +4,7 @@ ghost use Rattle.nl_test_namespace.specs.Volumes.{AddressesCanBeWritten, IsOpen}
 ghost use Rattle.nl_namespace.specs.Calls.{PathsHaveNames, IsOfNames};
 
 use crate::calls::{Outcome, Seen, changed, listed};
+use crate::device::Stamps;
 use crate::making::makes;
 use crate::paths::Series;
 use crate::writer::save;
@@ -12,7 +13,6 @@ use nl_inode::Nodes;
 use nl_meta::Meta;
 use nl_recover::{Recovered, Walked, recover};
 use nl_scan::ScanTables;
-use nl_test_files::device::Stamps;
 use nl_tree::{Call, Path, ReplyBuf};
 use std::alloc::Global;
 

@@ -4,13 +4,13 @@ ghost use Rattle.nl_field.specs.Numbers.{ShapeBounds};
 ghost use Rattle.nl_iface.specs.Device.{IsVolumeShape};
 ghost use Rattle.nl_test_namespace.specs.Volumes.{AddressesCanBeWritten};
 
+use crate::device::{Stamps, blank};
 use nl_device::{Device, Started};
 use nl_field::{Memory, PageBuf, Shape, VirtualWrite};
 use nl_iface::Counts;
 use nl_meta::Meta;
 use nl_nand::MemNand;
 use nl_scan::ScanTables;
-use nl_test_files::device::{Stamps, blank};
 use std::alloc::Global;
 
 /// A device that was started, and what its scan saw.

@@ -1,4 +1,5 @@
-//! Tests of the medium in memory, of a scan, of tables of blocks and moved pages, and callbacks, from outside their crates.
+//! Tests of media, in memory and in a store of bytes, of a scan, of tables of blocks and moved pages, and callbacks, from outside their
+//! crates. Stores are files in the folder where the tests run, and in memory, with a kill within a write.
 #![tactic(auto)]
 
 #[cfg(test)]
@@ -6,11 +7,17 @@ mod blocks;
 #[cfg(test)]
 mod callbacks;
 #[cfg(test)]
+mod image_files;
+#[cfg(test)]
+mod kills;
+#[cfg(test)]
 mod medium;
 #[cfg(test)]
 mod nand;
 #[cfg(test)]
 mod remap;
+#[cfg(test)]
+mod rows;
 #[cfg(test)]
 mod scan;
 #[cfg(test)]

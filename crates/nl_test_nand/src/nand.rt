@@ -1,3 +1,4 @@
+// A medium in memory: stops within its operations, and calls that fail by its lists.
 ghost use Rattle.std.specs.Prelude.{◌≡◌, ◌+◌, ◌<◌, IfSome};
 ghost use Rattle.nl_nand.specs.Nand.{ErasedWithin};
 ghost use Rattle.nl_nand.specs.Memory.{geometry_of, contents_of};

@@ -1,3 +1,4 @@
+// A scan of seventeen written pages, of such whose reads fail, and of media without pages.
 ghost use Rattle.std.specs.Prelude.{◌≡◌};
 ghost use Rattle.nl_nand.specs.Nand.{ErasedWithin};
 ghost use Rattle.nl_nand.specs.Memory.{geometry_of, contents_of};

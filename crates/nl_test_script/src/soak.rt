@@ -1,3 +1,4 @@
+// The scripts of soaks: a text that another program made, their sizes, and what a small volume answers.
 use nl_field::{Memory, shape_of};
 use nl_gen::soak_script;
 use nl_script::script_of;

@@ -1,0 +1,5 @@
+pub mod Examples
+pub mod Faults
+pub mod LargeFiles
+pub mod Phases
+pub mod Trees

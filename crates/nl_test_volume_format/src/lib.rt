@@ -1,6 +1,14 @@
-//! Tests of a new volume, from outside its crate, and rows of what an opening tells.
+//! Tests of a new volume, from outside its crate, and rows: the definitions of records, metadata, images and of what an opening tells give
+//! the answers of worked examples, evaluated in the prover.
 #![tactic(auto)]
 
 #[cfg(test)]
 mod making;
-pub mod rows;
+#[cfg(test)]
+mod metadata;
+#[cfg(test)]
+mod records;
+#[cfg(test)]
+mod rows;
+#[cfg(test)]
+mod trees;

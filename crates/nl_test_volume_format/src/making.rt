@@ -1,3 +1,4 @@
+// A new volume, made until a stop, and what a check finds of it.
 use nl_check::{Checked, findings};
 use nl_field::{FailList, What};
 use nl_nand::{Cut, MemNand, Stop};

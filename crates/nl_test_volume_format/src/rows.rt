@@ -3,8 +3,8 @@ ghost use Rattle.std.specs.Prelude.{◌≡◌, ◌∷◌, [], false, true};
 ghost use Rattle.nl_field.specs.Examples.{fresh_image};
 ghost use Rattle.nl_field.specs.declared.spare.SpareRec.TheVariants.{Physical, Virtual};
 ghost use Rattle.nl_volume_format.specs.Making.{OpensAsNew};
-ghost use Rattle.nl_test_spec_image.specs.Examples.{hello_page, image_of_a};
-ghost use Rattle.nl_test_spec_image.specs.Phases.{blank_image, consistent_image, copied, moved_page};
+ghost use Rattle.nl_test_volume_format.specs.Examples.{hello_page, image_of_a};
+ghost use Rattle.nl_test_volume_format.specs.Phases.{blank_image, consistent_image, copied, moved_page};
 ghost use Rattle.nl_core_open.specs.Beginning.{stopped_by};
 ghost use Rattle.nl_core_open.specs.Figures.{greatest_seen, is_moved, least_seen, pairs_of};
 

@@ -1,5 +1,5 @@
 use Rattle.std.proofs.Common.{◌∙◌, sym, arith}
-use Rattle.nl_test_files.proofs.Dirty.{room-for-names}
+use Rattle.nl_test_namespace.proofs.Dirty.{room-for-names}
 use Rattle.nl_test_namespace.proofs.Opened.{left-reads, open-left}
 use Rattle.nl_test_namespace.proofs.calls.changed.Goals as goal
 

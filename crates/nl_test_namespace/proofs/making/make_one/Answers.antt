@@ -1,7 +1,7 @@
 use Rattle.nl_meta.specs.Nodes.{graph_of}
 use Rattle.nl_namespace.specs.Making.{empty_node}
 use Rattle.nl_meta_running.specs.Running.{running_on}
-use Rattle.nl_test_files.proofs.Dirty.{room-for-names}
+use Rattle.nl_test_namespace.proofs.Dirty.{room-for-names}
 use Rattle.nl_test_namespace.proofs.Opened.{left-reads, none-gone, open-left}
 use Rattle.nl_test_namespace.proofs.making.make_one.Goals as goal
 

@@ -2,7 +2,7 @@ use Rattle.std.proofs.Common.{◌≡◌, ◌∙◌, inl, inr, List, length, Some
 use Rattle.nl_field.specs.Medium.{Readable, readable_pages}
 use Rattle.nl_field.specs.declared.super_page.SuperRec.{SuperRec}
 use Rattle.nl_meta.specs.Committed.{committed_of}
-use Rattle.nl_test_spec_image.specs.Examples.{hello_page, image_of_a}
+use Rattle.nl_test_volume_format.specs.Examples.{hello_page, image_of_a}
 use Rattle.nl_meta.specs.Nodes.{super_of_pages}
 use Rattle.nl_meta.specs.Walk.{walk}
 use Rattle.nl_meta.proofs.Lists.{none_some, some_in}

@@ -1,4 +1,0 @@
-use Rattle.nl_test_files.proofs.files.+fill.Given as goal
-
-abbrev pub decreases-fill : goal.decreases-fill
-decreases-fill g l = l.count

@@ -1,7 +1,0 @@
-use Rattle.std.proofs.Common.{refl}
-use Rattle.nl_field.proofs.OnLiterals.{field_on_literals}
-use Rattle.nl_test_spec_image.proofs.records.numbers_32_32.Goals as goal
-
-pub returns : goal.returns
-unfolding field_on_literals
-returns c = refl

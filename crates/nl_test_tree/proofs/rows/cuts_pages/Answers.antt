@@ -1,8 +1,0 @@
-use Rattle.std.proofs.Common.{refl}
-use Rattle.nl_tree.proofs.OnLiterals.{tree_on_literals}
-use Rattle.nl_test_tree.specs.Examples.{answers_due}
-use Rattle.nl_test_tree.proofs.rows.cuts_pages.Goals as goal
-
-pub returns : goal.returns
-unfolding tree_on_literals answers_due
-returns c = refl

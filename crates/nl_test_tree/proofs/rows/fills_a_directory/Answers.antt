@@ -1,7 +1,0 @@
-use Rattle.std.proofs.Common.{refl}
-use Rattle.nl_tree.proofs.OnLiterals.{tree_on_literals}
-use Rattle.nl_test_tree.proofs.rows.fills_a_directory.Goals as goal
-
-pub returns : goal.returns
-unfolding tree_on_literals
-returns c = refl

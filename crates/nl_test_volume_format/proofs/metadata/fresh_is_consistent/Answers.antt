@@ -1,0 +1,7 @@
+use Rattle.std.proofs.Common.{refl}
+use Rattle.nl_meta.proofs.OnLiterals.{meta_on_literals}
+use Rattle.nl_test_volume_format.proofs.metadata.fresh_is_consistent.Goals as goal
+
+pub returns : goal.returns
+unfolding meta_on_literals
+returns c = refl
