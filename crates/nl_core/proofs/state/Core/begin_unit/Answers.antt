@@ -6,6 +6,7 @@ use Rattle.nl_core.specs.Goes.{PreservesVolume}
 use Rattle.nl_core.specs.Writing.{counted_pages}
 use Rattle.nl_core.specs.declared.state.Core.{Core}
 use Rattle.nl_core.proofs.Begun.{frozen_goes, frozen_is_core, frozen_same, some_pages}
+use Rattle.nl_core.proofs.Onward.{goes_none}
 use Rattle.nl_core.proofs.state.Core.begin_unit.Goals as goal
 
 pub returns-clause-core : goal.returns-clause-core
@@ -31,3 +32,6 @@ returns-clause-some g c =
     let counted : c.store_count.new.meta ≡ counted_pages v = c.store_count.ensures ∙ ap (λ n. with_count v.shape n v.meta) c.min-count.ensures in
     subst (λ (x : Pages). 1 ≤ length x.frozen.addresses) (sym (c.freeze.ensures ∙ ap with_frozen counted))
     (some_pages G v c.requires.core c.device_stands.ensures.volume (subst IsPages counted c.stands.ensures) (sym c.frozen_len.ensures.count ∙ c.if-frozen_len-ne0.false) c.mark-mark.ensures.most)
+
+pub returns-then-frozen_len-ne0-clause-goes : goal.returns-then-frozen_len-ne0-clause-goes
+returns-then-frozen_len-ne0-clause-goes g c = goes_none g.D.Counts c.args.self.now c.requires.core

@@ -1,4 +1,5 @@
 use Rattle.std.proofs.Common.{◌≤◌, arith}
+use Rattle.nl_core.proofs.Onward.{goes_more}
 use Rattle.nl_core.proofs.Reached.{cause_unit, goes_ended, reaches_not, reaching_none, reaching_then}
 use Rattle.nl_core.proofs.state.Core.reach.Goals as goal
 
@@ -25,3 +26,15 @@ returns-in_default g c =
       reaches = reaches_not G c.args.goal c.args.self.now c.units.self c.unit.new.self c.units.invariant c.unit.result c.requires.goal c.units-test.true c.unit.ensures.core c.unit.ensures.goes c.unit.ensures.does c.in_default.not-Done;
       faults = cause_unit G c.args.goal c.args.self.now c.units.self c.unit.new.self c.units.invariant c.unit.result c.requires.goal c.units-test.true c.unit.ensures.core c.unit.ensures.goes c.unit.ensures.does c.unit.ensures.faults;
     }
+
+pub returns-then-self-ne0-clause-goes : goal.returns-then-self-ne0-clause-goes
+returns-then-self-ne0-clause-goes g c =
+    let i = c.units.invariant in
+    let few = i.paid in
+    goes_more g.D.Counts i.taken 256 c.args.self.now c.units.self (omega (arith, few)) i.goes
+
+pub returns-clause-goes : goal.returns-clause-goes
+returns-clause-goes g c =
+    let i = c.units.invariant in
+    let few = i.paid in
+    goes_more g.D.Counts i.taken 256 c.args.self.now c.units.self (omega (arith, few)) i.goes

@@ -1,12 +1,13 @@
 use Rattle.std.proofs.Common.{◌*◌, ◌≤◌, ◌∙◌, Option, ap, refl, subst, sym}
 use Rattle.std.proofs.lemmas.Option.{same_Some}
 use Rattle.nl_field.specs.Live.{resolve}
-use Rattle.nl_field.specs.Page.{page_at}
+use Rattle.nl_field.specs.Page.{Image, page_at}
 use Rattle.nl_iface.specs.Names.{has_tag}
 use Rattle.nl_iface.specs.Stored.{NamedPage, stored_in}
 use Rattle.nl_pseg.specs.Pages.{main_of, stamp_at}
-use Rattle.nl_pseg.specs.Segment.{held_at}
+use Rattle.nl_pseg.specs.Segment.{Physical, held_at}
 use Rattle.nl_pseg.specs.declared.held.Held.{Held}
+use Rattle.nl_device.specs.Device.{IsDevice}
 use Rattle.nl_device.specs.Shown.{bytes_at, live_page}
 use Rattle.nl_device.proofs.Finding.{finds_page, finds_under, shown_stamp}
 use Rattle.nl_device.proofs.Forms.{begins}
@@ -51,3 +52,12 @@ returns-clause-told g c t =
       shown_stamp page h.tag h.stamp (main_of page) (m.physical_is.holds place h here),
       λ n is. sym (ap (λ (x : NamedPage). x.tag) (same_Some (record { tag = h.tag; stamp = h.stamp; bytes = bytes }) n (sym (m.holds place (record { tag = h.tag; stamp = h.stamp }) (ap live_page here)) ∙ is))),
     ))
+
+pub returns-clause-formed : goal.returns-clause-formed
+returns-clause-formed g c =
+    let d = c.args.self.now in
+    let e = c.physical_read.ensures in
+    let m = c.physical_read.new.media in
+    subst (λ (i : Image). IsDevice (g.M.Nand.geometry m) g.M.Nand.tells i d.shape d.vseg c.physical_read.new.self d.pending d.kept d.next) (sym e.contents)
+    (subst (λ n. IsDevice n g.M.Nand.tells (g.M.Nand.contents d.media) d.shape d.vseg c.physical_read.new.self d.pending d.kept d.next) (sym e.geometry)
+    (subst (λ (s : Physical). IsDevice (g.M.Nand.geometry d.media) g.M.Nand.tells (g.M.Nand.contents d.media) d.shape d.vseg s d.pending d.kept d.next) (sym e.segment) c.requires.formed))
