@@ -22,7 +22,7 @@ use nl_tree::Lines;
 use nl_turns::{Kept, TurnSeat, Turns};
 use nl_volume::{NotOpened, Told, Volume, open};
 use nl_workers::{Gate, run_rounds};
-use std::alloc::Global;
+use std::alloc::{AllocFailed, Global};
 use std::marker::Brand;
 use std::sync::Wait;
 use std::thread::Threads;
@@ -114,7 +114,8 @@ fn run_opened<Rt: Threads + Wait + Sync, M: Nand + Send, G: Gate + Sync>(
         &mut tables.answers,
         gate,
     );
-    let volume = turns.close(seat);
+    let boxed = turns.close(seat);
+    let volume = Box::into_inner(boxed);
     let charges = charges_of(&volume.report());
     let closed = volume.close();
     let _clock = closed.media.clock();
@@ -136,20 +137,27 @@ fn any_lost(at_closing: bool, in_turns: bool) -> bool
 }
 
 // The lock over a volume, which stands for the lines from the tree of its image, and its first seat. The volume comes back for want of
-// memory.
+// memory. It is boxed: a turn then moves a pointer, and not the volume.
 fn open_lock<M: Nand>(
     alloc: Global,
     volume: Volume<M>,
     lines: &Lines,
-) -> Result<(Turns<Volume<M>>, TurnSeat), Volume<M>>
+) -> Result<(Turns<Box<Volume<M>>>, TurnSeat), Volume<M>>
     requires opened { ⟦<Volume<M> as Told>⟧.opened_on (M.contents (medium_of volume.core.device)) volume }
     requires stands { (tree : Tree) → (M.tells → ConsistentAs (M.contents (medium_of volume.core.device)) volume.core.count tree)
         → ⟦<Volume<M> as Kept>⟧.stands volume (⟦<Volume<M> as Told>⟧.opening volume tree lines.now) [] volume }
     ensures opening { IfOk result (λ r. (tree : Tree) × (M.tells → ConsistentAs (M.contents (medium_of volume.core.device)) volume.core.count tree)
         × (r.1.opening ≡ ⟦<Volume<M> as Told>⟧.opening volume tree lines.now)) }
     ensures first { IfOk result (λ r. IsFirstSeat lines.now r.1) }
-    ensures lock { IfOk result (λ r. (r.1.lock ≡ r.0.name) × (r.1.places + 1 ≡ r.0.seats) × (r.0.origin ≡ volume)) }
+    ensures lock { IfOk result (λ r. (r.1.lock ≡ r.0.name) × (r.1.places + 1 ≡ r.0.seats) × (r.0.origin.value ≡ volume)) }
     ensures memory { IfErr result (λ v. v ≡ volume) }
 {
-    Turns::new::<Brand>(alloc, volume, lines, SEATS)
+    let boxed = match Box::new(alloc, volume) {
+        Ok(boxed) => boxed,
+        Err(AllocFailed { value }) => return Err(value),
+    };
+    match Turns::new::<Brand>(alloc, boxed, lines, SEATS) {
+        Ok(made) => Ok(made),
+        Err(boxed) => Err(Box::into_inner(boxed)),
+    }
 }

@@ -2,6 +2,7 @@
 #![tactic(auto)]
 
 mod bells;
+mod boxed;
 mod entry;
 mod kept;
 mod plays;

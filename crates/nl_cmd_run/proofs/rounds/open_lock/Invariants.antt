@@ -6,4 +6,4 @@ use Rattle.nl_cmd_run.proofs.rounds.open_lock.Given as goal
 
 -- from the tree as which the image is sound
 abbrev pub ghosts-new : goal.ghosts-new
-ghosts-new g a = record { opening = opening_of (ghosts g.row.M g.M.Nand g.M.Nand-dict) a.value.core (tree_of (g.M.Nand.contents (medium_of a.value.core.device))) a.lines.now }
+ghosts-new g a = record { opening = opening_of (ghosts g.row.M g.M.Nand g.M.Nand-dict) a.value.value.core (tree_of (g.M.Nand.contents (medium_of a.value.value.core.device))) a.lines.now }

@@ -1,5 +1,4 @@
-use Rattle.std.proofs.Common.{◌≡◌, ◌∙◌, ◌||◌, ◌≤◌, Bool, true, false, ap, refl, subst, arith}
-use Rattle.nl_calls.specs.Answering.{pages_of_files}
+use Rattle.std.proofs.Common.{◌≡◌, ◌∙◌, ◌||◌, ◌≤◌, Bool, true, false, ap, refl, sym, subst, arith}
 use Rattle.nl_device.specs.Medium.{medium_of}
 use Rattle.nl_device.specs.contracts.counts.DeviceCounts.TheImpl.{ghosts}
 use Rattle.nl_field.specs.CrashStates.{top}
@@ -9,21 +8,33 @@ use Rattle.nl_turns.specs.History.{Opening}
 use Rattle.nl_turns.specs.Seat.{SeatState, entries}
 use Rattle.nl_spec_headline.specs.Streams.{medium}
 use Rattle.nl_volume.specs.Opening.{opening_of}
-use Rattle.nl_volume_stage.specs.Standing.{RepresentsHistory}
+use Rattle.nl_volume.specs.Standing.{VolumeRepresents}
 use Rattle.nl_volume.specs.declared.volume.Volume.{Volume}
 use Rattle.nl_cmd_course.specs.Rounds.{course_of}
 use Rattle.nl_cmd_run.proofs.Running.{rounds_and_end}
 use Rattle.nl_cmd_run.proofs.rounds.run_opened.Goals as goal
 
-pub close-closed-requires : goal.close-closed-requires
-close-closed-requires g c =
+-- the value of the box is the volume
+pub report-requires : goal.report-requires
+report-requires g c =
     let G = ghosts g.row.M g.M.Nand g.M.Nand-dict in
-    let origin = c.in-Ok.made.0.origin in
+    let origin = c.in-Ok.made.0.origin.value in
     let seat = c.run_rounds.new.seat in (
       origin,
       seat.opening,
       entries seat.seen,
-      c.close-volume.ensures,
+      subst (λ (v : Volume _). VolumeRepresents G origin seat.opening (entries seat.seen) v) (sym c.into_inner-volume.ensures) c.close-boxed.ensures,
+    )
+
+pub close-closed-requires : goal.close-closed-requires
+close-closed-requires g c =
+    let G = ghosts g.row.M g.M.Nand g.M.Nand-dict in
+    let origin = c.in-Ok.made.0.origin.value in
+    let seat = c.run_rounds.new.seat in (
+      origin,
+      seat.opening,
+      entries seat.seen,
+      subst (λ (v : Volume _). VolumeRepresents G origin seat.opening (entries seat.seen) v) (sym c.into_inner-volume.ensures) c.close-boxed.ensures,
     )
 
 pub returns-clause-lost : goal.returns-clause-lost
@@ -45,14 +56,14 @@ returns-clause-ran g c =
     let after = c.run_rounds.new.seat in
     let ran = c.run_rounds.ensures.ran in
     let rows = c.run_rounds.new.answers.rows in
-    let last = c.close-volume.result in
+    let last = c.into_inner-volume.result in
     let v = last.core in
     let media = c.close-closed.result.media in
     let e = c.close-closed.ensures in
     let o = opening_of G v0 opening.0 c.args.lines.now in
     let h = entries after.seen in
-    let stands = subst (λ (x : Volume _ × Opening). RepresentsHistory G x.0.core x.1 h last.core last.done × (last.files ≡ pages_of_files G last.core))
-    (λ k. (c.in-Ok.ensures.lock.2 k, (ap (λ (z : SeatState). z.opening) ran.same ∙ opening.2) k)) c.close-volume.ensures in
+    let stands = subst (λ (x : Volume _ × Opening × Volume _). VolumeRepresents G x.0 x.1 h x.2)
+    (λ k. (c.in-Ok.ensures.lock.2 k, (ap (λ (z : SeatState). z.opening) ran.same ∙ opening.2) k, (sym c.into_inner-volume.ensures) k)) c.close-boxed.ensures in
     let told = c.charges_of-charges.ensures in
     let clock = c.clock-clock.ensures in
     let clock_fits = c.clock-clock.type_inv in
@@ -80,12 +91,12 @@ returns-clause-closing g c =
     let v0 = c.args.volume.core in
     let opening = c.in-Ok.ensures.opening in
     let after = c.run_rounds.new.seat in
-    let last = c.close-volume.result in
+    let last = c.into_inner-volume.result in
     let closed = c.close-closed.result in
     let e = c.close-closed.ensures in
     let h = entries after.seen in
-    let stands = subst (λ (x : Volume _ × Opening). RepresentsHistory G x.0.core x.1 h last.core last.done × (last.files ≡ pages_of_files G last.core))
-    (λ k. (c.in-Ok.ensures.lock.2 k, (ap (λ (z : SeatState). z.opening) c.run_rounds.ensures.ran.same ∙ opening.2) k)) c.close-volume.ensures in
+    let stands = subst (λ (x : Volume _ × Opening × Volume _). VolumeRepresents G x.0 x.1 h x.2)
+    (λ k. (c.in-Ok.ensures.lock.2 k, (ap (λ (z : SeatState). z.opening) c.run_rounds.ensures.ran.same ∙ opening.2) k, (sym c.into_inner-volume.ensures) k)) c.close-boxed.ensures in
     record {
       origin = v0;
       opening = opening_of G v0 opening.0 c.args.lines.now;
