@@ -6,6 +6,7 @@ mod counts;
 mod device;
 pub mod formed_laws;
 mod kept;
+pub mod map_laws;
 mod marks;
 mod moving_pages;
 mod named_pages;

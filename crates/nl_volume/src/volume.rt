@@ -1,11 +1,13 @@
-ghost use Rattle.std.specs.Prelude.{◌≡◌, ◌≤◌, ◌^◌, ◌↔◌, IsTrue};
+ghost use Rattle.std.specs.Prelude.{◌≡◌, ◌≤◌, ◌*◌, ◌^◌, ◌↔◌, IsTrue};
 ghost use Rattle.nl_device.specs.Medium.{medium_of};
+ghost use Rattle.nl_turns.specs.Served.{StandsForSome};
 
 use nl_core::Core;
 use nl_device::Device;
 use nl_field::PageBuf;
 use nl_iface::{Counts, MovingPages};
 use nl_nand::Nand;
+use nl_spec_commits::laws::device_stands;
 use nl_turns::Kept;
 use nl_volume_stage::is_worn;
 
@@ -54,6 +56,17 @@ impl<M: Nand> Volume<M> {
         ensures { result ≡ (⟦<Device<M> as Counts>⟧.names self.now.core.device).posted }
     {
         self.core.device.posted()
+    }
+
+    /// How many moved pages have a pointer that still has their old name: the pairs of an old name and the page that it leads to. These are
+    /// at most four times the pages of a block.
+    pub fn pairs(&self) -> u32
+        requires { StandsForSome ⟦<Volume<M> as Kept>⟧.stands self.now }
+        ensures exactly { result ≡ (⟦<Device<M> as Counts>⟧.names self.now.core.device).space.pairs }
+        ensures few { result ≤ 4 * (⟦<Device<M> as Counts>⟧.shape self.now.core.device).pages }
+    {
+        device_stands(&self.core.device);
+        self.core.device.pairs()
     }
 
     /// Gives the medium back as it is. Nothing is written.
