@@ -1,4 +1,4 @@
--- The tree of a core after a line of its one worker.
+-- The tree of a core after a call.
 use Rattle.std.proofs.Common.{◌≡◌, ℕ, Bool, true, false, ◌&&◌, is_none, Option, None, Some, refl, sym, ap, subst, ◌∙◌}
 use Rattle.nl_field.specs.declared.shape.Shape.{Shape}
 use Rattle.nl_tree.specs.Causes.{fault_in}
@@ -18,7 +18,7 @@ use Rattle.nl_core.specs.Trees.{CoreRepresentsTree}
 use Rattle.nl_core.specs.declared.state.Core.{Core}
 use Rattle.nl_calls_steps.proofs.Stepping.{steps_run}
 use Rattle.nl_calls.specs.Answering.{MakesEffect, HasEffectOf, Syncs, is_sync_call, is_synced}
-use Rattle.nl_test_calls_still.specs.Serving.{TakesStep}
+use Rattle.nl_pagemap_volume.specs.Serving.{TakesStep}
 
 -- ---- a sync leaves the tree
 

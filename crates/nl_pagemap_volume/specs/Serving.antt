@@ -1,10 +1,11 @@
--- What a core is between two lines of its one worker, and what a line makes of its tree.
-use Rattle.std.specs.Prelude.{◌≡◌, ℕ, ◌≤◌, length, Option}
+-- What a core is between two calls of one thread, and what a call makes of its tree.
+use Rattle.std.specs.Prelude.{◌≡◌, ℕ, ⊤, Option}
 use Rattle.nl_tree.specs.Causes.{fault_in}
 use Rattle.nl_tree.specs.Replay.{step_marked}
 use Rattle.nl_tree.specs.Tree.{Tree}
 use Rattle.nl_tree.specs.declared.call.Call.{Call}
 use Rattle.nl_tree.specs.declared.reply.Reply.{Reply}
+use Rattle.nl_tree.specs.declared.reply.Reply.TheVariants.{Synced}
 use Rattle.nl_flight.specs.Flight.{begun, of_worker}
 use Rattle.nl_iface.specs.declared.counts.Counts.{Ghosts}
 use Rattle.nl_meta.specs.Consistent.{PageOfStamp}
@@ -15,17 +16,20 @@ use Rattle.nl_core.specs.declared.state.Core.{Core}
 use Rattle.nl_calls_steps.specs.Calls.{RepresentsSomeTree}
 use Rattle.nl_calls.specs.Answering.{pages_of_files}
 
--- The core is in order and runs as some tree, and its files have so many pages. Worker 0 has no line, and no worker has more pages in
--- flight than a line may.
+-- The core is in order and runs as some tree, and its files have so many pages. No worker has a line in flight.
 pub record CoreServes {D : Type 0} (g : Ghosts D) (files : ℕ) (v : Core D) : Type 0 where
   pub core : IsCore g v
   pub runs : RepresentsSomeTree g v
   pub counted : files ≡ pages_of_files g v
-  pub idle : of_worker v.flight 0 ≡ begun 0
-  pub few : (worker : ℕ) → length (of_worker v.flight worker).pages ≤ 16
+  pub idle : (worker : ℕ) → of_worker v.flight worker ≡ begun 0
 
 -- For each tree as which the core ran, it runs as the tree after the call's step, with the fault of the reply if it is one.
 abbrev pub TakesStep : {D : Type 0} → Ghosts D → Call → Core D → Core D → Reply → Type 0
 TakesStep g call old new reply =
     g.tells → (page_of_stamp : ℕ → Option PageOfStamp) (tree : Tree) → CoreRepresentsTree g old page_of_stamp tree
     → PreservesTree g new page_of_stamp (step_marked (g.shape old.device) tree (call, fault_in reply)).tree
+
+-- The numbers of a sync are the count of all calls before it, which are committed then, and the moment of the last commit page.
+abbrev pub TellsAllCalls : {D : Type 0} → Core D → Core D → Reply → Type 0
+TellsAllCalls old new (Synced upto moment) = (upto ≡ old.count) × (new.committed ≡ old.count) × (moment ≡ new.moment)
+TellsAllCalls old new reply = ⊤
