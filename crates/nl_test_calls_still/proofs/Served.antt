@@ -17,7 +17,7 @@ use Rattle.nl_core.specs.declared.state.Core.{Core}
 use Rattle.nl_calls_steps.specs.Calls.{RepresentsSomeTree}
 use Rattle.nl_calls_steps.proofs.WorkerLines.{same_count}
 use Rattle.nl_calls.specs.Answering.{AnswersCall}
-use Rattle.nl_test_core_still.specs.New.{IsNew}
+use Rattle.nl_core_new.specs.New.{IsNew}
 use Rattle.nl_test_calls_still.specs.Serving.{CoreServes, TakesStep}
 use Rattle.nl_test_calls_still.proofs.Stepped.{steps_of}
 

@@ -2,7 +2,7 @@
 ghost use Rattle.std.specs.Prelude.{◌≡◌, ◌≤◌, ◌^◌, IfOk, IfSome};
 ghost use Rattle.nl_calls.specs.Answering.{AnswersOn};
 ghost use Rattle.nl_test_calls_still.specs.Serving.{CoreServes, TakesStep};
-ghost use Rattle.nl_test_core_still.specs.New.{IsNew};
+ghost use Rattle.nl_core_new.specs.New.{IsNew};
 ghost use Rattle.nl_tree.specs.Calls.{IsLine};
 
 use crate::running::is_read_only;
