@@ -42,7 +42,10 @@ pub fn begun<D: MovingPages>(
     ensures same { device_in result ≡ device }
 {
     device_stands(&device);
-    if walked.kept.len() != 0 || walked.count != 0 {
+    if walked.kept.len() != 0 {
+        return Err(device);
+    }
+    if walked.count != 0 {
         return Err(device);
     }
     if entries_of_root(&walked.nodes, &walked.meta) != 0 {

@@ -20,7 +20,8 @@ use nl_spec_commits::laws::device_stands;
 use std::alloc::Global;
 
 /// The core over a new volume on a device that is idle: the root and the super page are written, and then walked as an opening does. The
-/// core runs as the tree with only the root, after no call. The device comes back for want of memory, or where a write or a read failed.
+/// core runs as the tree with only the root, after no call. The device comes back for want of memory, where a write or a read failed, and
+/// where the walk finds no such volume.
 pub fn open_new<D: MovingPages>(alloc: Global, device: D, shape: Shape) -> Result<Core<D>, D>
     requires idle { IsIdle D.Counts device }
     requires shape { shape ≡ D.shape device }
