@@ -43,8 +43,9 @@ use Rattle.nl_recover.proofs.StartFacts.{walked_starts}
 use Rattle.nl_core.specs.Core.{FreeAreUnused, HasSpace, IsCore}
 use Rattle.nl_core.specs.Trees.{CoreRepresentsTree}
 use Rattle.nl_core.specs.declared.state.Core.{Core}
-use Rattle.nl_test_core_still.specs.New.{HasNoEntries, IsNew}
-use Rattle.nl_test_core_still.proofs.Root.{no_page, root_alone}
+use Rattle.nl_core_new.specs.New.{HasNoEntries, IsNew}
+use Rattle.nl_core_new.proofs.Ready.{IsReady}
+use Rattle.nl_core_new.proofs.Root.{no_page, root_alone}
 
 none_carried : length (carried nothing) ≡ 0
 unfolding carried
@@ -57,23 +58,6 @@ nothing_carried = refl
 none_of : {X Y : Type 0} (f : X → Y) (xs : List X) → map f xs ≡ [] → xs ≡ []
 none_of f [] is = refl
 none_of f (x ∷ xs) is = absurd (let no : ⊥ = cc in no)
-
--- No page is live, no name leads away, and no callback is pending. The virtual segment keeps a spare block, and one more write that fails
--- can be counted.
-pub record IsIdle {D : Type 0} (g : Ghosts D) (s : D) : Type 0 where
-  pub formed : g.formed s
-  pub volume : IsVolumeShape (g.shape s)
-  pub table : IsTableOfNames (g.names s)
-  pub numbers : IsNames (g.shape s) (g.next_stamp s) (g.names s)
-  pub no_live : (p : ℕ) → (g.names s).live p ≡ None
-  pub own : (n : ℕ) → led (g.names s) n ≡ n
-  pub no_pending : (c : Callback) → Has (g.names s).pending c → ⊥
-  pub count : (g.names s).space.live ≡ 0
-  pub one_kept : (g.names s).space.keep + (g.names s).space.bad ≡ 1
-  pub lands : CanLand (g.names s).space
-  pub spare : g.keeps_spare s
-  pub firm : g.tells → IsFirm g s
-  pub counts : g.write_faults s < top
 
 module _ {D : Type 0} (g : Ghosts D) (s : D) (seen : List Seen) (w : Walked) (freeing : PointerItems) where
   abbrev pub core_over : Core D
@@ -112,7 +96,7 @@ module _ {D : Type 0} (g : Ghosts D) (s : D) (seen : List Seen) (w : Walked) (fr
     stopped = 0;
   }
 
-  module _ (idle : IsIdle g s) (is : IsWalked g s seen w) (kept : w.kept.items ≡ []) (lines : IsFlight nothing) (none : freeing.items ≡ []) (room : (g.shape s).pblocks * (g.shape s).pages ≤ freeing.room) where
+  module _ (idle : IsReady g s) (is : IsWalked g s seen w) (kept : w.kept.items ≡ []) (lines : IsFlight nothing) (none : freeing.items ≡ []) (room : (g.shape s).pblocks * (g.shape s).pages ≤ freeing.room) where
     starts : Starts g s w
     starts = walked_starts g s seen w is (λ tells. (idle.firm tells).none_failed)
 
@@ -243,7 +227,7 @@ module _ {D : Type 0} (g : Ghosts D) (s : D) (seen : List Seen) (w : Walked) (fr
           };
         }
 
-    module _ (empty : HasNoEntries w.meta) where
+    module _ (empty : HasNoEntries w.meta) (uncounted : w.count ≡ 0) where
       runs : CoreRepresentsTree g core_over no_page empty_tree
       runs = record {
         runs = record {
@@ -256,4 +240,4 @@ module _ {D : Type 0} (g : Ghosts D) (s : D) (seen : List Seen) (w : Walked) (fr
       }
 
       pub begun_new : IsNew g core_over
-      begun_new = record { runs = λ tells. (no_page, runs); flight = refl; no_files = ap (λ (xs : List (Tag × Pointer)). length xs) none_held }
+      begun_new = record { runs = λ tells. (no_page, runs); flight = refl; no_files = ap (λ (xs : List (Tag × Pointer)). length xs) none_held; no_freeing = none; count = uncounted; stopped = refl }

@@ -25,7 +25,7 @@ use Rattle.nl_spec_image.proofs.EmptyTree.{empty_at_root, empty_below}
 use Rattle.nl_spec_image.proofs.GraphOfPages.{node_is}
 use Rattle.nl_recover.specs.Recovering.{IsWalked}
 use Rattle.nl_recover.specs.declared.opening.Walked.{Walked}
-use Rattle.nl_test_core_still.specs.New.{HasNoEntries}
+use Rattle.nl_core_new.specs.New.{HasNoEntries}
 
 -- no number has a page of a file
 abbrev pub no_page : ℕ → Option PageOfStamp
