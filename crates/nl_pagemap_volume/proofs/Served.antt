@@ -22,7 +22,7 @@ use Rattle.nl_core.specs.Units.{goal_or}
 use Rattle.nl_core.specs.declared.state.Core.{Core}
 use Rattle.nl_calls_steps.specs.Calls.{RepresentsSomeTree, counts_of}
 use Rattle.nl_calls.specs.Answering.{AnswersCall, HasEffectOf, MakesEffect, Syncs, goal_now, pages_of_files}
-use Rattle.nl_pagemap_volume.specs.Serving.{CoreServes, TakesStep, TellsAllCalls}
+use Rattle.nl_pagemap_volume.specs.Serving.{CoreServes, StampsPaid, TakesStep, TellsAllCalls}
 use Rattle.nl_pagemap_volume.proofs.Stepped.{steps_of}
 
 -- ---- lines
@@ -63,6 +63,7 @@ pub record Keeps {D : Type 0} (g : Ghosts D) (u v : Core D) : Type 0 where
   pub same_shape : g.shape v.device ≡ g.shape u.device
   pub count : v.count ≡ u.count
   pub stops : TurnsReadOnly g u v
+  pub stamps : StampsPaid g u.device v.device
 
 module _ {D : Type 0} (g : Ghosts D) (goal : ℕ) (call : Call) (u v : Core D) where
   effect_keeps : (fault : Option FaultReply) → MakesEffect g call fault u v → Keeps g u v
@@ -90,6 +91,11 @@ module _ {D : Type 0} (g : Ghosts D) (goal : ℕ) (call : Call) (u v : Core D) w
                 (subst (λ n. Rose (g.read_faults u.device + g.write_faults u.device) n) (sym same) k.1.0, omega (arith, most, same, writes, reads)),
               );
         };
+        stamps = λ low less.
+            let clock = m.clock in
+            let stamp = m.next_stamp in
+            let paid = x.goes.stamps.paid (omega (arith, low, clock)) (omega (arith, less, writes)) in
+            omega (arith, paid, clock, stamp, writes);
       }
 
   sync_keeps : (upto moment : ℕ) → Syncs g goal upto moment u v → Keeps g u v
@@ -98,6 +104,7 @@ module _ {D : Type 0} (g : Ghosts D) (goal : ℕ) (call : Call) (u v : Core D) w
     same_shape = x.goes.same_shape;
     count = x.goes.count;
     stops = x.goes.stops;
+    stamps = x.goes.stamps.paid;
   }
 
   pub keeps_of : (reply : Reply) → HasEffectOf g goal call u v reply → Keeps g u v

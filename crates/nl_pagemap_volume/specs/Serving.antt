@@ -1,5 +1,6 @@
 -- What a core is between two calls of one thread, and what a call makes of its tree.
-use Rattle.std.specs.Prelude.{◌≡◌, ℕ, ⊤, Option}
+use Rattle.std.specs.Prelude.{◌≡◌, ℕ, ◌+◌, ◌<◌, ◌≤◌, ⊤, Option}
+use Rattle.nl_field.specs.CrashStates.{top}
 use Rattle.nl_tree.specs.Causes.{fault_in}
 use Rattle.nl_tree.specs.Replay.{step_marked}
 use Rattle.nl_tree.specs.Tree.{Tree}
@@ -33,3 +34,9 @@ TakesStep g call old new reply =
 abbrev pub TellsAllCalls : {D : Type 0} → Core D → Core D → Reply → Type 0
 TellsAllCalls old new (Synced upto moment) = (upto ≡ old.count) × (new.committed ≡ old.count) × (moment ≡ new.moment)
 TellsAllCalls old new reply = ⊤
+
+-- The next write sequence number rises by no more than the clock and the count of failed writes, while these stand below their end.
+abbrev pub StampsPaid : {D : Type 0} → Ghosts D → D → D → Type 0
+StampsPaid g old new =
+    g.clock new < top → g.write_faults new < top
+    → g.next_stamp new + g.clock old + g.write_faults old ≤ g.next_stamp old + g.clock new + g.write_faults new

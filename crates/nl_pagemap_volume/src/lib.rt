@@ -2,6 +2,11 @@
 //! plain tree answers it.
 #![tactic(auto)]
 
+mod answering;
+mod cleaning;
+mod freeing;
 mod serving;
+mod volume;
 
 pub use serving::serve_call;
+pub use volume::MapVolume;

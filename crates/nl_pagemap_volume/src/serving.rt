@@ -4,7 +4,7 @@ ghost use Rattle.nl_field.specs.CrashStates.{saturated};
 ghost use Rattle.nl_calls.specs.Answering.{AnswersOn, MayTry, is_sync_call, is_synced};
 ghost use Rattle.nl_calls_steps.specs.Calls.{counts_of};
 ghost use Rattle.nl_core.specs.Goes.{TurnsReadOnly};
-ghost use Rattle.nl_pagemap_volume.specs.Serving.{CoreServes, TakesStep, TellsAllCalls};
+ghost use Rattle.nl_pagemap_volume.specs.Serving.{CoreServes, StampsPaid, TakesStep, TellsAllCalls};
 ghost use Rattle.nl_tree.specs.Calls.{IsBounded};
 ghost use Rattle.nl_tree.specs.Causes.{FaultWithin, NeverFall, fault_in};
 
@@ -12,7 +12,6 @@ use nl_calls::{Answer, answer_call};
 use nl_core::Core;
 use nl_field::PageBuf;
 use nl_iface::MovingPages;
-use nl_spec_commits::laws::device_stands;
 use nl_tree::{Call, ReplyBuf};
 
 /// A call takes effect and is counted: its reply, with the bytes that belong to it in the buffer, and how many pages files have then. A
@@ -43,6 +42,7 @@ pub fn serve_call<D: MovingPages>(
     ensures counts { NeverFall (counts_of D.Counts core.old.device) (counts_of D.Counts core.new.device) }
     ensures same_shape { D.shape core.new.device ≡ D.shape core.old.device }
     ensures stops { TurnsReadOnly D.Counts core.old core.new }
+    ensures stamps { StampsPaid D.Counts core.old.device core.new.device }
 {
     out.clear();
     let answer = answer_call(core, worker, 1, call, files, out, page);

@@ -7,7 +7,7 @@ use Rattle.nl_calls_steps.specs.Calls.{counts_of}
 use Rattle.nl_core.specs.Goes.{TurnsReadOnly}
 use Rattle.nl_core.specs.declared.state.Core.{Core}
 use Rattle.nl_flight.specs.Flight.{InFlight}
-use Rattle.nl_pagemap_volume.specs.Serving.{CoreServes, TakesStep, TellsAllCalls}
+use Rattle.nl_pagemap_volume.specs.Serving.{CoreServes, StampsPaid, TakesStep, TellsAllCalls}
 use Rattle.nl_pagemap_volume.proofs.Served.{few_of, goal_is, keeps_on, serves_on, steps_on, tells_on}
 use Rattle.nl_pagemap_volume.proofs.serving.serve_call.Goals as goal
 
@@ -96,3 +96,11 @@ returns-clause-stops g c =
     let u = c.args.core.now in
     let k = (keeps_on G c.args.files c.args.worker c.args.call.now u a.new.core a.result.reply a.new.out a.result.files c.requires.serves a.ensures.core a.ensures.answers).stops in
     subst (λ (x : Core g.row.D.Denot). TurnsReadOnly G u x) (sym c.count_call.ensures) (record { stands = k.stands; none = k.none; some = k.some })
+
+pub returns-clause-stamps : goal.returns-clause-stamps
+returns-clause-stamps g c =
+    let G = g.D.Counts in
+    let a = c.answer_call-answer in
+    let u = c.args.core.now in
+    let k = (keeps_on G c.args.files c.args.worker c.args.call.now u a.new.core a.result.reply a.new.out a.result.files c.requires.serves a.ensures.core a.ensures.answers).stamps in
+    subst (λ (x : Core g.row.D.Denot). StampsPaid G u.device x.device) (sym c.count_call.ensures) k
