@@ -11,6 +11,9 @@ use Rattle.nl_core_new.specs.New.{IsWrittenOn, StaysFormed}
 none_rose : (before now : ℕ) → before < top → now ≡ before → Rose before now → ⊥
 none_rose before now less same rose = omega (arith, less, same, rose)
 
+pub stays : {D : Type 0} (g : Ghosts D) (s : D) → g.formed s → StaysFormed g s s
+stays g s formed = record { formed = formed; shape = refl; clock = omega arith; read_faults = omega arith; write_faults = omega arith }
+
 module _ {D : Type 0} (g : Ghosts D) (s t : D) where
   -- a count of failed writes below its end that stays as it is
   pub no_failure : g.write_faults s < top → g.write_faults t ≡ g.write_faults s → NoWriteFailed g s t
@@ -25,6 +28,21 @@ module _ {D : Type 0} (g : Ghosts D) (s t : D) where
     lands = subst (λ (n : Names). CanLand n.space) (sym names) idle.lands;
     spare = spare;
     counts = let less = idle.counts in omega (arith, less, faults);
+  }
+
+  -- a write that is done, where the count of failed writes is that of before
+  pub write_idle : IsIdle g s → g.formed t → KeepsNamed g s t → (NoWriteFailed g s t → g.keeps_spare t) → g.write_faults t ≡ g.write_faults s → IsIdle g t
+  write_idle idle formed kept spare faults =
+      let none = no_failure idle.counts faults in
+      stays_idle idle formed (spare none) (kept.names none) faults
+
+  pub write_written : g.write_faults s < top → KeepsNamed g s t → g.next_stamp t ≤ g.next_stamp s + 1 → g.write_faults t ≡ g.write_faults s → IsWrittenOn g 1 s t
+  write_written less kept stamps faults = record {
+    shape = kept.same_shape;
+    names = kept.names (no_failure less faults);
+    stamps = stamps;
+    clean = kept.clean;
+    write_faults = faults;
   }
 
   pub reads_idle : IsIdle g s → g.formed t → OnlyReads g s t → IsIdle g t
