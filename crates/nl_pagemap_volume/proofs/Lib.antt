@@ -1,2 +1,7 @@
+mod Cleaned
+mod Doing
+mod Erased
+mod Keeping
+mod Made
 pub mod Served
-pub mod Stepped
+mod Stepped

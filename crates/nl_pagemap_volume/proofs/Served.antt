@@ -23,6 +23,7 @@ use Rattle.nl_core.specs.declared.state.Core.{Core}
 use Rattle.nl_calls_steps.specs.Calls.{RepresentsSomeTree, counts_of}
 use Rattle.nl_calls.specs.Answering.{AnswersCall, HasEffectOf, MakesEffect, Syncs, goal_now, pages_of_files}
 use Rattle.nl_pagemap_volume.specs.Serving.{CoreServes, StampsPaid, TakesStep, TellsAllCalls}
+use Rattle.nl_pagemap_volume.proofs.Keeping.{Keeps, keeps_goes, keeps_then}
 use Rattle.nl_pagemap_volume.proofs.Stepped.{steps_of}
 
 -- ---- lines
@@ -57,55 +58,40 @@ serves_new g v core runs flight none = record {
 
 -- ---- what a call keeps
 
--- Counts of the medium do not fall, the shape and the count of calls stay, and the core is read-only from the first failed write on.
-pub record Keeps {D : Type 0} (g : Ghosts D) (u v : Core D) : Type 0 where
-  pub later : NeverFall (counts_of g u.device) (counts_of g v.device)
-  pub same_shape : g.shape v.device ≡ g.shape u.device
-  pub count : v.count ≡ u.count
-  pub stops : TurnsReadOnly g u v
-  pub stamps : StampsPaid g u.device v.device
-
 module _ {D : Type 0} (g : Ghosts D) (goal : ℕ) (call : Call) (u v : Core D) where
   effect_keeps : (fault : Option FaultReply) → MakesEffect g call fault u v → Keeps g u v
   effect_keeps fault x =
       let m = x.steps.reads.medium in
       let t = x.goes.stops in
-      let writes : g.write_faults v.device ≡ g.write_faults x.between.device = m.write_faults in
-      let reads = x.steps.read_faults in
       let same : v.stopped ≡ x.between.stopped = ap (λ (c : Core D). c.stopped) x.steps.others in
+      let clock = m.clock in
+      let writes = m.write_faults in
+      let reads = x.steps.read_faults in
+      let stamp = m.next_stamp in
       record {
         later = record {
-          clock = let one = x.goes.clock in let two = m.clock in omega (arith, one, two);
+          clock = let one = x.goes.clock in omega (arith, one, clock);
           read_faults = let one = x.goes.reads in omega (arith, one, reads);
           write_faults = let one = x.goes.writes in omega (arith, one, writes);
         };
         same_shape = m.virtual.same_shape ∙ x.goes.same_shape;
-        count = ap (λ (c : Core D). c.count) x.steps.others ∙ x.goes.count;
         stops = record {
           stands = λ off. same ∙ t.stands off;
-          none = λ none rose. t.none (sym same ∙ none) (subst (λ n. Rose (g.write_faults u.device) n) writes rose);
+          none = λ none rose. t.none (sym same ∙ none) (omega (arith, rose, writes));
           some = λ was off.
               let k = t.some was (λ none. off (same ∙ none)) in
-              let most = k.1.1 in (
-                subst (λ n. Rose (g.write_faults u.device) n) (sym writes) k.0,
-                (subst (λ n. Rose (g.read_faults u.device + g.write_faults u.device) n) (sym same) k.1.0, omega (arith, most, same, writes, reads)),
-              );
+              let one = k.0 in
+              let two = k.1.0 in
+              let most = k.1.1 in
+              (omega (arith, one, writes), (omega (arith, two, same), omega (arith, most, same, writes, reads)));
         };
         stamps = λ low less.
-            let clock = m.clock in
-            let stamp = m.next_stamp in
             let paid = x.goes.stamps.paid (omega (arith, low, clock)) (omega (arith, less, writes)) in
             omega (arith, paid, clock, stamp, writes);
       }
 
-  sync_keeps : (upto moment : ℕ) → Syncs g goal upto moment u v → Keeps g u v
-  sync_keeps upto moment x = record {
-    later = record { clock = x.goes.clock; read_faults = x.goes.reads; write_faults = x.goes.writes };
-    same_shape = x.goes.same_shape;
-    count = x.goes.count;
-    stops = x.goes.stops;
-    stamps = x.goes.stamps.paid;
-  }
+  effect_count : (fault : Option FaultReply) → MakesEffect g call fault u v → v.count ≡ u.count
+  effect_count fault x = ap (λ (c : Core D). c.count) x.steps.others ∙ x.goes.count
 
   pub keeps_of : (reply : Reply) → HasEffectOf g goal call u v reply → Keeps g u v
   keeps_of Done x = effect_keeps None x
@@ -114,9 +100,20 @@ module _ {D : Type 0} (g : Ghosts D) (goal : ℕ) (call : Call) (u v : Core D) w
   keeps_of (Names n) x = effect_keeps None x
   keeps_of (File size pages) x = effect_keeps None x
   keeps_of (Dir entries) x = effect_keeps None x
-  keeps_of (Synced upto moment) x = sync_keeps upto moment x
+  keeps_of (Synced upto moment) x = keeps_goes g x.most u v x.goes
   keeps_of (No refusal) x = effect_keeps None x
   keeps_of (Fault fault) x = effect_keeps (Some fault) x
+
+  pub count_of : (reply : Reply) → HasEffectOf g goal call u v reply → v.count ≡ u.count
+  count_of Done x = effect_count None x
+  count_of (Count n) x = effect_count None x
+  count_of Content x = effect_count None x
+  count_of (Names n) x = effect_count None x
+  count_of (File size pages) x = effect_count None x
+  count_of (Dir entries) x = effect_count None x
+  count_of (Synced upto moment) x = x.goes.count
+  count_of (No refusal) x = effect_count None x
+  count_of (Fault fault) x = effect_count (Some fault) x
 
   pub tells_of : (reply : Reply) → HasEffectOf g goal call u v reply → goal ≡ u.count → IsCore g v → TellsAllCalls u (counted v) reply
   tells_of Done x all core = tt
@@ -165,6 +162,9 @@ module _ {D : Type 0} (g : Ghosts D) (files worker : ℕ) (call : Call) (u v : C
 
   pub keeps_on : Keeps g u v
   keeps_on = keeps_of g (goal_now u worker) call u v reply x.effect
+
+  pub count_on : v.count ≡ u.count
+  count_on = count_of g (goal_now u worker) call u v reply x.effect
 
   pub tells_on : TellsAllCalls u (counted v) reply
   tells_on = tells_of g (goal_now u worker) call u v reply x.effect (goal_is u worker (was.idle worker)) core

@@ -1,5 +1,5 @@
 // What a call is answered on a core over a page-mapped device.
-ghost use Rattle.std.specs.Prelude.{◌≡◌, ◌<◌, ◌^◌, [], true};
+ghost use Rattle.std.specs.Prelude.{◌≡◌, ◌<◌, [], None, true};
 ghost use Rattle.nl_pagemap_volume.specs.Serving.{CoreServes};
 ghost use Rattle.nl_core.specs.Calls.{counted};
 ghost use Rattle.nl_pagemap_volume.specs.Volume.{DoesCall, is_clean, refusing};
@@ -57,9 +57,8 @@ fn change<M: Nand>(
     requires serves { CoreServes ⟦<Pagemap<M> as Counts>⟧ files core.old }
     requires known { worker < 8 }
     requires bounded { IsBounded call.now }
+    requires due { fault_due (refusing ⟦<Pagemap<M> as Counts>⟧ core.old) call.now ≡ None }
     requires changes { is_changing call.now ≡ true }
-    requires writes { core.old.stopped ≡ 0 }
-    requires stamp { ⟦<Pagemap<M> as Counts>⟧.next_stamp core.old.device < 2 ^ 62 }
     requires nothing { out.old ≡ [] }
     ensures serves { CoreServes ⟦<Pagemap<M> as Counts>⟧ result.files core.new }
     ensures does { DoesCall ⟦<Pagemap<M> as Counts>⟧ call.now core.old core.new result.reply out.new }

@@ -1,5 +1,5 @@
 //! The volume: it is made on a medium that holds nothing, does calls, and gives its medium back.
-ghost use Rattle.std.specs.Prelude.{◌≡◌, ◌+◌, ◌<◌, ◌&&◌, IfOk, is_none, is_some};
+ghost use Rattle.std.specs.Prelude.{◌≡◌, ◌+◌, ◌<◌, ◌&&◌, IfOk, is_none};
 ghost use Rattle.nl_calls.specs.Answering.{is_sync_call, is_synced};
 ghost use Rattle.nl_core.specs.Goes.{TurnsReadOnly};
 ghost use Rattle.nl_field.specs.CrashStates.{saturated, top};
@@ -92,9 +92,7 @@ impl<M: Nand> MapVolume<M> {
             &mut self.page,
         );
         self.files = files;
-        if !is_fault(&reply) {
-            free_due(&mut self.core);
-        }
+        free_due(&mut self.core, &reply);
         reply
     }
 
@@ -126,6 +124,7 @@ impl<M: Nand> MapVolume<M> {
     }
 }
 
+// The same with a page.
 fn make_with<M: Nand>(
     alloc: Global,
     media: M,
@@ -140,19 +139,15 @@ fn make_with<M: Nand>(
     ensures stands { IfOk result (Stands ⟦<Pagemap<M> as Counts>⟧) }
     ensures new { IfOk result (IsNewVolume ⟦<Pagemap<M> as Counts>⟧ shape) }
 {
-    let device = Pagemap::make(alloc, media, shape)?;
-    match open_new(alloc, device, shape) {
-        Ok(core) => Ok(MapVolume {
-            core,
-            files: 0,
-            page,
-        }),
-        Err(device) => Err(device.into_media()),
+    match Pagemap::make(alloc, media, shape) {
+        Ok(device) => match open_new(alloc, device, shape) {
+            Ok(core) => Ok(MapVolume {
+                core,
+                files: 0,
+                page,
+            }),
+            Err(device) => Err(device.into_media()),
+        },
+        Err(media) => Err(media),
     }
-}
-
-fn is_fault(reply: &Reply) -> bool
-    ensures { result ≡ is_some (fault_in reply.now) }
-{
-    matches!(reply, Reply::Fault(_))
 }

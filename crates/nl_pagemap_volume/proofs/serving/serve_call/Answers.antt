@@ -8,7 +8,7 @@ use Rattle.nl_core.specs.Goes.{TurnsReadOnly}
 use Rattle.nl_core.specs.declared.state.Core.{Core}
 use Rattle.nl_flight.specs.Flight.{InFlight}
 use Rattle.nl_pagemap_volume.specs.Serving.{CoreServes, StampsPaid, TakesStep, TellsAllCalls}
-use Rattle.nl_pagemap_volume.proofs.Served.{few_of, goal_is, keeps_on, serves_on, steps_on, tells_on}
+use Rattle.nl_pagemap_volume.proofs.Served.{count_on, few_of, goal_is, keeps_on, serves_on, steps_on, tells_on}
 use Rattle.nl_pagemap_volume.proofs.serving.serve_call.Goals as goal
 
 pub answer_call-answer-requires : goal.answer_call-answer-requires
@@ -70,7 +70,7 @@ returns-clause-counted g c =
     let G = g.D.Counts in
     let a = c.answer_call-answer in
     let u = c.args.core.now in
-    let same = (keeps_on G c.args.files c.args.worker c.args.call.now u a.new.core a.result.reply a.new.out a.result.files c.requires.serves a.ensures.core a.ensures.answers).count in
+    let same = count_on G c.args.files c.args.worker c.args.call.now u a.new.core a.result.reply a.new.out a.result.files c.requires.serves a.ensures.core a.ensures.answers in
     subst (λ (x : Core g.row.D.Denot). x.count ≡ saturated (u.count + 1)) (sym c.count_call.ensures) (ap (λ n. saturated (n + 1)) same)
 
 pub returns-clause-counts : goal.returns-clause-counts
