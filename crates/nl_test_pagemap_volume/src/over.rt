@@ -46,11 +46,7 @@ const FILLS: &str = "0 fill /a 0 65536 61
 ";
 
 /// How many of these calls are answered with the count of their bytes.
-fn filled(
-    alloc: Global,
-    volume: &mut MapVolume<MemNand>,
-    out: &mut ReplyBuf,
-) -> Result<u32, Memory>
+fn filled(alloc: Global, volume: &mut MapVolume<MemNand>, out: &mut ReplyBuf) -> Result<u32, Memory>
     requires { Stands ⟦<Pagemap<MemNand> as Counts>⟧ volume.old }
     ensures { Stands ⟦<Pagemap<MemNand> as Counts>⟧ volume.new }
 {

@@ -67,12 +67,7 @@ const ROWS: [Row; 40] = [
     ("0 truncate /d/a 8192", Reply::Done, b"", 2),
     ("0 truncate /d/a 3", Reply::Done, b"", 1),
     ("0 truncate /d/a 10", Reply::Done, b"", 1),
-    (
-        "0 read /d/a 0 11",
-        Reply::Content,
-        b"hel\0\0\0\0\0\0\0",
-        1,
-    ),
+    ("0 read /d/a 0 11", Reply::Content, b"hel\0\0\0\0\0\0\0", 1),
     ("0 truncate /d 0", Reply::No(Refusal::Eisdir), b"", 1),
     ("0 create /b", Reply::Done, b"", 1),
     ("0 write /b 20000 01", Reply::Count(1), b"", 2),
@@ -90,7 +85,15 @@ const ROWS: [Row; 40] = [
     ("0 unlink /b", Reply::Done, b"", 0),
     ("0 unlink /b", Reply::No(Refusal::Enoent), b"", 0),
     ("0 list /", Reply::Names(0), b"", 0),
-    ("0 sync", Reply::Synced { upto: 37, moment: 0 }, b"", 0),
+    (
+        "0 sync",
+        Reply::Synced {
+            upto: 37,
+            moment: 77,
+        },
+        b"",
+        0,
+    ),
     ("0 clean", Reply::Done, b"", 0),
     ("0 stat /", Reply::Dir { entries: 0 }, b"", 0),
 ];
