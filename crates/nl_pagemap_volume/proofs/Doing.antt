@@ -30,7 +30,7 @@ use Rattle.nl_calls.specs.Answering.{AnswersOn, MayTry, is_sync_call, is_synced}
 use Rattle.nl_calls.proofs.Steps.{clean_step}
 use Rattle.nl_flight.specs.Flight.{InFlight, of_worker}
 use Rattle.nl_pagemap_volume.specs.Serving.{CoreServes, StampsPaid, TakesStep}
-use Rattle.nl_pagemap_volume.specs.Volume.{DoesCall, TellsCount, refusing, some_number}
+use Rattle.nl_pagemap_volume.specs.Volume.{DoesCall, FreesAll, TellsCount, refusing, some_number}
 use Rattle.nl_pagemap_volume.proofs.Keeping.{Keeps, keeps_goes, keeps_then}
 use Rattle.nl_pagemap_volume.proofs.Served.{counted_tree}
 
@@ -228,3 +228,14 @@ does_behind g call u v w reply out m d goes same = by (fault_in reply) refl
     by : (o : Option FaultReply) → fault_in reply ≡ o → DoesCall g call u w reply out
     by (Some fault) is = subst (λ (x : Core _). DoesCall g call u x reply out) (sym (same (ap is_some is))) d
     by None is = does g call u w reply out (due_later g.tells (refusing g u) call reply (counts_of g u.device) (counts_of g v.device) (counts_of g w.device) is d.cause) (effect_then g call u v w reply out m (effect_in g call u v reply out d) goes)
+
+-- no page awaits its free behind a call where nothing failed
+pub frees_all : {D : Type 0} (g : Ghosts D) (call : Call) (u v w : Core D) (reply : Reply) (out : List ℕ) (m : ℕ) → DoesCall g call u v reply out → PreservesVolume g m v w
+    → (g.tells → fault_in reply ≡ None → (FaultRose (counts_of g v.device) (counts_of g w.device) → ⊥) → v.stopped ≡ 0 → g.next_stamp v.device < 2 ^ 62 → w.freeing.items ≡ []) → FreesAll g u w reply
+frees_all g call u v w reply out m d goes freed tells none calm writes stamp = freed tells none (λ rose. calm (rose_after (counts_of g u.device) (counts_of g v.device) (counts_of g w.device) d.counts rose)) still (let low = goes.stamps.never_falls in omega (arith, low, stamp))
+  where
+    later : NeverFall (counts_of g v.device) (counts_of g w.device)
+    later = record { clock = goes.clock; read_faults = goes.reads; write_faults = goes.writes }
+
+    still : v.stopped ≡ 0
+    still = ⊎_elim (λ is. is) (λ off. absurd (calm (rose_then (counts_of g u.device) (counts_of g v.device) (counts_of g w.device) (inr (d.stops.some writes off).0) later))) (cases_eq v.stopped 0)

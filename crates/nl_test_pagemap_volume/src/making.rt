@@ -59,10 +59,10 @@ pub fn made(alloc: Global, fails: u64) -> Result<MapVolume<MemNand>, Memory>
 }
 
 /// The reply to the call of a line.
-pub fn step(volume: &mut MapVolume<MemNand>, line: &Line, out: &mut ReplyBuf) -> Reply
-    requires stands { Stands ⟦<Pagemap<MemNand> as Counts>⟧ volume.old }
+pub fn step<M: Nand>(volume: &mut MapVolume<M>, line: &Line, out: &mut ReplyBuf) -> Reply
+    requires stands { Stands ⟦<Pagemap<M> as Counts>⟧ volume.old }
     requires line { IsLine line.now }
-    ensures stands { Stands ⟦<Pagemap<MemNand> as Counts>⟧ volume.new }
+    ensures stands { Stands ⟦<Pagemap<M> as Counts>⟧ volume.new }
 {
     volume.step(line.worker, &line.call, out)
 }

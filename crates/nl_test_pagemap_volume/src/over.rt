@@ -4,7 +4,7 @@ ghost use Rattle.nl_pagemap_volume.specs.Volume.{Stands};
 use crate::making::{made, step};
 use nl_field::Memory;
 use nl_iface::Counts;
-use nl_nand::MemNand;
+use nl_nand::Nand;
 use nl_pagemap::Pagemap;
 use nl_pagemap_volume::MapVolume;
 use nl_script::script_of;
@@ -46,9 +46,13 @@ const FILLS: &str = "0 fill /a 0 65536 61
 ";
 
 /// How many of these calls are answered with the count of their bytes.
-fn filled(alloc: Global, volume: &mut MapVolume<MemNand>, out: &mut ReplyBuf) -> Result<u32, Memory>
-    requires { Stands ⟦<Pagemap<MemNand> as Counts>⟧ volume.old }
-    ensures { Stands ⟦<Pagemap<MemNand> as Counts>⟧ volume.new }
+fn filled<M: Nand>(
+    alloc: Global,
+    volume: &mut MapVolume<M>,
+    out: &mut ReplyBuf,
+) -> Result<u32, Memory>
+    requires { Stands ⟦<Pagemap<M> as Counts>⟧ volume.old }
+    ensures { Stands ⟦<Pagemap<M> as Counts>⟧ volume.new }
 {
     let lines = match script_of(alloc, FILLS.as_bytes()) {
         Ok(lines) => lines,
@@ -77,14 +81,14 @@ fn over(alloc: Global, turns: u32) -> Result<(u32, u32), Memory> {
 }
 
 /// The file is created, and filled so often.
-fn created_and_filled(
+fn created_and_filled<M: Nand>(
     alloc: Global,
-    volume: &mut MapVolume<MemNand>,
+    volume: &mut MapVolume<M>,
     turns: u32,
     out: &mut ReplyBuf,
 ) -> Result<u32, Memory>
-    requires { Stands ⟦<Pagemap<MemNand> as Counts>⟧ volume.old }
-    ensures { Stands ⟦<Pagemap<MemNand> as Counts>⟧ volume.new }
+    requires { Stands ⟦<Pagemap<M> as Counts>⟧ volume.old }
+    ensures { Stands ⟦<Pagemap<M> as Counts>⟧ volume.new }
 {
     if !created(alloc, volume, out)? {
         return Ok(0);
@@ -98,13 +102,13 @@ fn created_and_filled(
 }
 
 /// Whether the file is created.
-fn created(
+fn created<M: Nand>(
     alloc: Global,
-    volume: &mut MapVolume<MemNand>,
+    volume: &mut MapVolume<M>,
     out: &mut ReplyBuf,
 ) -> Result<bool, Memory>
-    requires { Stands ⟦<Pagemap<MemNand> as Counts>⟧ volume.old }
-    ensures { Stands ⟦<Pagemap<MemNand> as Counts>⟧ volume.new }
+    requires { Stands ⟦<Pagemap<M> as Counts>⟧ volume.old }
+    ensures { Stands ⟦<Pagemap<M> as Counts>⟧ volume.new }
 {
     let lines = match script_of(alloc, b"0 create /a") {
         Ok(lines) => lines,

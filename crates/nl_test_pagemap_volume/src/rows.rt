@@ -4,7 +4,7 @@ ghost use Rattle.nl_pagemap_volume.specs.Volume.{Stands};
 use crate::making::{made, step};
 use nl_field::Memory;
 use nl_iface::Counts;
-use nl_nand::MemNand;
+use nl_nand::Nand;
 use nl_pagemap::Pagemap;
 use nl_pagemap_volume::MapVolume;
 use nl_script::script_of;
@@ -99,14 +99,14 @@ const ROWS: [Row; 40] = [
 ];
 
 /// Whether a row is answered as it has it.
-fn answered(
+fn answered<M: Nand>(
     alloc: Global,
-    volume: &mut MapVolume<MemNand>,
+    volume: &mut MapVolume<M>,
     row: &Row,
     out: &mut ReplyBuf,
 ) -> Result<bool, Memory>
-    requires { Stands ⟦<Pagemap<MemNand> as Counts>⟧ volume.old }
-    ensures { Stands ⟦<Pagemap<MemNand> as Counts>⟧ volume.new }
+    requires { Stands ⟦<Pagemap<M> as Counts>⟧ volume.old }
+    ensures { Stands ⟦<Pagemap<M> as Counts>⟧ volume.new }
 {
     let (line, reply, bytes, entries) = *row;
     let lines = match script_of(alloc, line.as_bytes()) {
@@ -124,12 +124,12 @@ fn answered(
 }
 
 /// The place of the first row that is not answered as it has it, where they come one after the other. None where each is.
-fn first_wrong(
+fn first_wrong<M: Nand>(
     alloc: Global,
-    volume: &mut MapVolume<MemNand>,
+    volume: &mut MapVolume<M>,
     rows: &[Row],
 ) -> Result<Option<usize>, Memory>
-    requires { Stands ⟦<Pagemap<MemNand> as Counts>⟧ volume.old }
+    requires { Stands ⟦<Pagemap<M> as Counts>⟧ volume.old }
 {
     let mut out = ReplyBuf::new(alloc)?;
     let mut at = 0usize;
