@@ -1,5 +1,5 @@
 -- A core stands on while its device cleans a block by itself: pages change their places, and no page its name.
-use Rattle.std.proofs.Common.{◌≡◌, ℕ, ◌≤◌, refl, sym, ap, subst, ◌∙◌, arith}
+use Rattle.std.proofs.Common.{◌≡◌, inl, inr, ⊎_elim, ℕ, ◌≤◌, refl, sym, ap, subst, ◌∙◌, arith}
 use Rattle.nl_core_clean.specs.Carried.{KeepsHeld, KeepsStored}
 use Rattle.nl_iface.specs.Calls.{CallCounted, StoresMap, StoresPages, stored}
 use Rattle.nl_iface.specs.Device.{IsVolumeShape}
@@ -7,6 +7,8 @@ use Rattle.nl_iface.specs.Moves.{ErasesAtCrashes, KeepsCleaning, LeavesErased}
 use Rattle.nl_iface.specs.Names.{SameTables}
 use Rattle.nl_iface.specs.Space.{CanLand, SameSegment, Space}
 use Rattle.nl_iface.specs.declared.counts.Counts.{Ghosts}
+use Rattle.nl_tree.specs.Causes.{FaultRose}
+use Rattle.nl_calls_steps.specs.Calls.{counts_of}
 use Rattle.nl_core.specs.Core.{IsCore, names_of}
 use Rattle.nl_core.specs.Goes.{PreservesVolume}
 use Rattle.nl_core.specs.Writing.{stopped_on}
@@ -56,3 +58,10 @@ goes_on g u v w room goes = goes_then g u v w 0 0 room.goes goes
 
 pub room_then : {D : Type 0} (g : Ghosts D) (u v w : Core D) → Room g u v → IsCore g w → PreservesVolume g 0 v w → w.flight ≡ v.flight → w.stopped ≡ 0 → Room g u w
 room_then g u v w room core goes flight writes = record { core = core; goes = goes_on g u v w room goes; flight = flight ∙ room.flight; writes = writes }
+
+-- a failure of the last of these calls is one of all of them
+pub rose_on : {D : Type 0} (g : Ghosts D) (u v w : Core D) → Room g u v → FaultRose (counts_of g v.device) (counts_of g w.device) → FaultRose (counts_of g u.device) (counts_of g w.device)
+rose_on g u v w room rose =
+    let reads = room.goes.reads in
+    let writes = room.goes.writes in
+    ⊎_elim (λ r. inl (omega (arith, r, reads))) (λ r. inr (omega (arith, r, writes))) rose

@@ -1,24 +1,25 @@
 -- A call, with what the device does before it and behind it.
 use Rattle.std.proofs.Common.{◌≡◌, ◌≢◌, ◌⊎◌, inl, inr, ⊎_elim, ℕ, ◌+◌, ◌<◌, ◌≤◌, ◌^◌, Bool, true, false, cond, ◌&&◌, is_none, is_some, IsTrue, List, [], Option, None, Some, refl, sym, ap, subst, ◌∙◌, arith}
-use Rattle.std.specs.Prelude.{IfSome, MatchOption, nat_le, ◌==◌}
+use Rattle.std.specs.Prelude.{IfSome, MatchOption, ⊤, nat_le, ◌==◌}
 use Rattle.std.proofs.lemmas.Bool.{cases_eq, cases_lt}
 use Rattle.nl_field.specs.CrashStates.{saturated}
 use Rattle.nl_field.specs.declared.shape.Shape.{Shape}
-use Rattle.nl_tree.specs.Causes.{Counts, FaultIsDue, FaultRose, FaultState, FaultWithin, NeverFall, fault_before, fault_due, fault_in, fault_of_change, is_changing, max_stamp}
+use Rattle.nl_tree.specs.Causes.{Counts, FaultIsDue, FaultRose, FaultState, FaultWithin, NeverFall, fault_before, fault_due, fault_in, fault_sum, fault_of_change, is_changing, max_stamp}
 use Rattle.nl_tree.specs.Replay.{Answers, step_marked}
 use Rattle.nl_tree.specs.Step.{Outcome, step}
 use Rattle.nl_tree.specs.Tree.{Tree}
 use Rattle.nl_tree.specs.declared.call.Call.{Call}
-use Rattle.nl_tree.specs.declared.call.Call.TheVariants.{Clean}
+use Rattle.nl_tree.specs.declared.call.Call.TheVariants.{Mkdir, Rmdir, Create, Unlink, Rename, Write, Fill, Read, Truncate, Stat, List as ListCall, Sync, Clean}
 use Rattle.nl_tree.specs.declared.reply.FaultReply.{FaultReply}
 use Rattle.nl_tree.specs.declared.reply.FaultReply.TheVariants.{Eio, Erofs, Eworn, Edamaged}
 use Rattle.nl_tree.specs.declared.reply.Reply.{Reply}
-use Rattle.nl_tree.specs.declared.reply.Reply.TheVariants.{Done, Fault}
+use Rattle.nl_tree.specs.declared.reply.Reply.TheVariants.{Done, Count, Content, Names, File, Dir as DirReply, Synced, No, Fault}
 use Rattle.nl_iface.specs.declared.counts.Counts.{Ghosts}
 use Rattle.nl_meta.specs.Consistent.{PageOfStamp}
 use Rattle.nl_core.specs.Calls.{counted}
 use Rattle.nl_core.specs.Core.{IsCore, running_of}
-use Rattle.nl_core.specs.Goes.{PreservesTree, PreservesVolume}
+use Rattle.nl_core.proofs.Counted.{counted_core}
+use Rattle.nl_core.specs.Goes.{PreservesTree, PreservesVolume, TurnsReadOnly}
 use Rattle.nl_core.specs.Trees.{CoreRepresentsTree}
 use Rattle.nl_core.specs.declared.state.Core.{Core}
 use Rattle.nl_core.proofs.Onward.{goes_none}
@@ -29,8 +30,8 @@ use Rattle.nl_calls_steps.proofs.Going.{files_on}
 use Rattle.nl_calls.specs.Answering.{AnswersOn, MayTry, is_sync_call, is_synced}
 use Rattle.nl_calls.proofs.Steps.{clean_step}
 use Rattle.nl_flight.specs.Flight.{InFlight, of_worker}
-use Rattle.nl_pagemap_volume.specs.Serving.{CoreServes, StampsPaid, TakesStep}
-use Rattle.nl_pagemap_volume.specs.Volume.{DoesCall, FreesAll, TellsCount, refusing, some_number}
+use Rattle.nl_pagemap_volume.specs.Serving.{CoreServes, StampsPaid, TakesStep, TellsAllCalls}
+use Rattle.nl_pagemap_volume.specs.Volume.{DoesCall, FreesAll, TellsCount, is_clean, refusing, some_number}
 use Rattle.nl_pagemap_volume.proofs.Keeping.{Keeps, keeps_goes, keeps_then}
 use Rattle.nl_pagemap_volume.proofs.Served.{counted_tree}
 
@@ -239,3 +240,86 @@ frees_all g call u v w reply out m d goes freed tells none calm writes stamp = f
 
     still : v.stopped ≡ 0
     still = ⊎_elim (λ is. is) (λ off. absurd (calm (rose_then (counts_of g u.device) (counts_of g v.device) (counts_of g w.device) (inr (d.stops.some writes off).0) later))) (cases_eq v.stopped 0)
+
+-- ---- a call, by how it was answered
+
+-- the call for cleaning is this one
+pub clean_of : (call : Call) → is_clean call ≡ true → call ≡ Clean
+clean_of (Mkdir path) e = absurd (cc e)
+clean_of (Rmdir path) e = absurd (cc e)
+clean_of (Create path) e = absurd (cc e)
+clean_of (Unlink path) e = absurd (cc e)
+clean_of (Rename from to) e = absurd (cc e)
+clean_of (Write path from bytes) e = absurd (cc e)
+clean_of (Fill path from len byte) e = absurd (cc e)
+clean_of (Read path from len) e = absurd (cc e)
+clean_of (Truncate path size) e = absurd (cc e)
+clean_of (Stat path) e = absurd (cc e)
+clean_of (ListCall path) e = absurd (cc e)
+clean_of Sync e = absurd (cc e)
+clean_of Clean e = refl
+
+-- a sync that tells all calls tells their count
+tells_count : {D : Type 0} (u v : Core D) (reply : Reply) → TellsAllCalls u v reply → TellsCount u.count reply
+tells_count u v Done x = tt
+tells_count u v (Count n) x = tt
+tells_count u v Content x = tt
+tells_count u v (Names n) x = tt
+tells_count u v (File size pages) x = tt
+tells_count u v (DirReply entries) x = tt
+tells_count u v (Synced upto moment) x = x.0
+tells_count u v (No refusal) x = tt
+tells_count u v (Fault fault) x = tt
+
+module _ {D : Type 0} (g : Ghosts D) (call : Call) (u v : Core D) where
+  -- it is refused before it is tried
+  pub does_refused : (fault : FaultReply) → IsCore g v → fault_due (refusing g v) call ≡ Some fault → DoesCall g call v (counted v) (Fault fault) []
+  does_refused fault core refused =
+      does g call v (counted v) (Fault fault) [] (due_refused g.tells (refusing g v) call (Fault fault) (counts_of g v.device) (counts_of g v.device) fault refused refl) (effect_fault g v core call fault)
+
+  module _ (tried : fault_due (refusing g u) call ≡ None) (goes : PreservesVolume g 0 u v) where
+    never : NeverFall (counts_of g u.device) (counts_of g v.device)
+    never = record { clock = goes.clock; read_faults = goes.reads; write_faults = goes.writes }
+
+    -- what came before it failed
+    pub does_fail : IsCore g v → FaultRose (counts_of g u.device) (counts_of g v.device) → DoesCall g call u (counted v) (Fault (Eio (fault_sum (counts_of g v.device)))) []
+    does_fail core rose =
+        does g call u (counted v) (Fault (Eio (fault_sum (counts_of g v.device)))) []
+        (subst (λ (o : Option FaultReply). MatchOption o (FaultWithin g.tells (counts_of g u.device) (counts_of g v.device) (Eio (fault_sum (counts_of g v.device)))) (λ fault. Fault (Eio (fault_sum (counts_of g v.device))) ≡ Fault fault)) (sym tried) (rose, refl))
+        (effect_after g call u v (counted v) (Fault (Eio (fault_sum (counts_of g v.device)))) [] 0 goes (effect_fault g v core call (Eio (fault_sum (counts_of g v.device)))))
+
+    -- it is served
+    pub does_serve : (w : Core D) (reply : Reply) (out : List ℕ) → AnswersOn g call v reply out → TakesStep g call v w reply → IfSome (fault_in reply) (FaultWithin g.tells (counts_of g v.device) (counts_of g w.device))
+        → is_synced reply ≡ (is_sync_call call && is_none (fault_in reply)) → TellsAllCalls v w reply → w.count ≡ saturated (v.count + 1) → NeverFall (counts_of g v.device) (counts_of g w.device) → g.shape w.device ≡ g.shape v.device → TurnsReadOnly g v w
+        → StampsPaid g v.device w.device → DoesCall g call u w reply out
+    does_serve w reply out answers steps cause synced numbers count later shape stops stamps =
+        does g call u w reply out (due_within g.tells (refusing g u) call reply (counts_of g u.device) (counts_of g v.device) (counts_of g w.device) tried never cause)
+        (effect_after g call u v w reply out 0 goes (record {
+          answers = answers;
+          steps = steps;
+          synced = synced;
+          upto = tells_count v w reply numbers;
+          counted = count;
+          keeps = record { later = later; same_shape = shape; stops = stops; stamps = stamps };
+        }))
+
+-- a call for cleaning is done
+pub does_clean : {D : Type 0} (g : Ghosts D) (u v : Core D) → fault_due (refusing g u) Clean ≡ None → PreservesVolume g 0 u v → IsCore g v → DoesCall g Clean u (counted v) Done []
+does_clean g u v tried goes core =
+    does g Clean u (counted v) Done [] (subst (λ (o : Option FaultReply). MatchOption o ⊤ (λ fault. Done ≡ Fault fault)) (sym tried) tt) (effect_after g Clean u v (counted v) Done [] 0 goes (effect_clean g v core))
+
+-- a count of calls is no part of what a core serves
+pub serves_counted : {D : Type 0} (g : Ghosts D) (files : ℕ) (v : Core D) → CoreServes g files v → CoreServes g files (counted v)
+serves_counted g files v was = record {
+  core = counted_core g v was.core;
+  runs = λ tells. let k = was.runs tells in let on = counted_tree g v k.0 k.1 (with_none g v k.0 k.1 k.2) in (on.pages, k.1, on.runs);
+  counted = was.counted;
+  idle = was.idle;
+}
+
+-- no write failed where the core can be written to; else one did
+pub rose_stopped : {D : Type 0} (g : Ghosts D) (u v : Core D) → PreservesVolume g 0 u v → u.stopped ≡ 0 → (v.stopped ≡ 0 → ⊥) → FaultRose (counts_of g u.device) (counts_of g v.device)
+rose_stopped g u v goes writes off = inr (goes.stops.some writes off).0
+
+pub may_after : {D : Type 0} (g : Ghosts D) (call : Call) (u v : Core D) → MayTry g call u → PreservesVolume g 0 u v → v.stopped ≡ 0 → MayTry g call v
+may_after g call u v may goes writes = record { writes = λ changing. writes; stamp = λ changing. let low = may.stamp changing in let most = goes.stamps.at_most in omega (arith, low, most) }

@@ -1,10 +1,14 @@
 // What a call is answered on a core over a page-mapped device.
 ghost use Rattle.std.specs.Prelude.{◌≡◌, ◌<◌, [], None, true};
 ghost use Rattle.nl_pagemap_volume.specs.Serving.{CoreServes};
+ghost use Rattle.nl_calls_steps.specs.Calls.{counts_of};
 ghost use Rattle.nl_core.specs.Calls.{counted};
 ghost use Rattle.nl_pagemap_volume.specs.Volume.{DoesCall, is_clean, refusing};
 ghost use Rattle.nl_tree.specs.Calls.{IsBounded};
-ghost use Rattle.nl_tree.specs.Causes.{fault_due, is_changing};
+ghost use Rattle.nl_tree.specs.Causes.{fault_due, fault_sum, is_changing};
+ghost use Rattle.nl_tree.specs.declared.call.Call.TheVariants.{Clean};
+ghost use Rattle.nl_tree.specs.declared.reply.FaultReply.TheVariants.{Eio};
+ghost use Rattle.nl_tree.specs.declared.reply.Reply.TheVariants.{Fault as FaultAnswer};
 
 use crate::cleaning::make_room;
 use crate::freeing::LAST_STAMP;
@@ -40,9 +44,34 @@ pub(crate) fn answer<M: Nand>(
     out.clear();
     match refusal(core, call) {
         Some(fault) => without_effect(core, Reply::Fault(fault), files),
-        None if is_changing(call) => change(core, worker, call, files, out, page),
-        None => serve_call(core, worker, call, files, out, page),
+        None => try_call(core, worker, call, files, out, page),
     }
+}
+
+/// A call that is not refused.
+fn try_call<M: Nand>(
+    core: &mut Core<Pagemap<M>>,
+    worker: u8,
+    call: &Call,
+    files: u32,
+    out: &mut ReplyBuf,
+    page: &mut PageBuf,
+) -> Answer
+    requires serves { CoreServes ⟦<Pagemap<M> as Counts>⟧ files core.old }
+    requires known { worker < 8 }
+    requires bounded { IsBounded call.now }
+    requires due { fault_due (refusing ⟦<Pagemap<M> as Counts>⟧ core.old) call.now ≡ None }
+    requires nothing { out.old ≡ [] }
+    ensures serves { CoreServes ⟦<Pagemap<M> as Counts>⟧ result.files core.new }
+    ensures does { DoesCall ⟦<Pagemap<M> as Counts>⟧ call.now core.old core.new result.reply out.new }
+{
+    if is_clean(call) {
+        return clean_all(core, files);
+    }
+    if is_changing(call) {
+        return change(core, worker, call, files, out, page);
+    }
+    serve_call(core, worker, call, files, out, page)
 }
 
 /// A call that changes something, on a core that can be written to.
@@ -63,23 +92,42 @@ fn change<M: Nand>(
     ensures serves { CoreServes ⟦<Pagemap<M> as Counts>⟧ result.files core.new }
     ensures does { DoesCall ⟦<Pagemap<M> as Counts>⟧ call.now core.old core.new result.reply out.new }
 {
-    let cleans = is_clean(call);
-    let wanted = if cleans { u32::MAX } else { ROOM };
-    if !make_room(core, wanted) {
-        let fault = FaultReply::Eio(core.faults());
-        return without_effect(core, Reply::Fault(fault), files);
+    let found = make_room(core, ROOM);
+    if found {
+        return serve_call(core, worker, call, files, out, page);
     }
-    if cleans {
+    fail(core, files)
+}
+
+/// A call for cleaning, on a core that can be written to: all blocks are cleaned that can be.
+fn clean_all<M: Nand>(core: &mut Core<Pagemap<M>>, files: u32) -> Answer
+    requires serves { CoreServes ⟦<Pagemap<M> as Counts>⟧ files core.old }
+    requires due { fault_due (refusing ⟦<Pagemap<M> as Counts>⟧ core.old) Clean ≡ None }
+    ensures serves { CoreServes ⟦<Pagemap<M> as Counts>⟧ result.files core.new }
+    ensures does { DoesCall ⟦<Pagemap<M> as Counts>⟧ Clean core.old core.new result.reply [] }
+{
+    let done = make_room(core, u32::MAX);
+    if done {
         return without_effect(core, Reply::Done, files);
     }
-    serve_call(core, worker, call, files, out, page)
+    fail(core, files)
+}
+
+/// A call that is not tried since the medium failed: it is counted, and the tree stays.
+fn fail<D: MovingPages>(core: &mut Core<D>, files: u32) -> Answer
+    ensures counted { core.new ≡ counted core.old }
+    ensures reply { result.reply ≡ FaultAnswer (Eio (fault_sum (counts_of D.Counts core.old.device))) }
+    ensures files { result.files ≡ files }
+{
+    let fault = FaultReply::Eio(core.faults());
+    without_effect(core, Reply::Fault(fault), files)
 }
 
 /// The call is counted, and the tree stays.
 fn without_effect<D: MovingPages>(core: &mut Core<D>, reply: Reply, files: u32) -> Answer
-    requires serves { CoreServes D.Counts files core.old }
     ensures counted { core.new ≡ counted core.old }
-    ensures answer { result ≡ record { reply = reply; files = files } }
+    ensures reply { result.reply ≡ reply }
+    ensures files { result.files ≡ files }
 {
     core.count_call();
     Answer { reply, files }
