@@ -128,7 +128,7 @@ module _ {D : Type 0} (g : Ghosts D) (goal : ℕ) (call : Call) (u v : Core D) w
       let later = core.counts.later in
       let latest = core.counts.latest in
       let committed : v.committed ≡ u.count = omega (arith, reached, count, later, latest, all) in
-      (x.upto_is ∙ committed, (committed, x.moment_is))
+      (x.upto_is ∙ committed, committed, x.moment_is)
   tells_of (No refusal) x all core = tt
   tells_of (Fault fault) x all core = tt
 
