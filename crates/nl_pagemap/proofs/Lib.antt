@@ -1,12 +1,16 @@
 pub mod Counted
 pub mod Dropped
 pub mod Failures
+pub mod Filled
 pub mod Found
 pub mod Fresh
+pub mod Granted
 pub mod Images
 pub mod Numbers
 pub mod Over
+pub mod Pages
 pub mod Placed
 pub mod Programmed
+pub mod Spent
 pub mod Wasted
 pub mod Written

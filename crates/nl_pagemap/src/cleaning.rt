@@ -60,11 +60,13 @@ impl<M: Nand> Pagemap<M> {
             media,
             vseg,
             table,
+            untried,
             buf,
             ..
         } = self;
         drop(vseg);
         drop(table);
+        drop(untried);
         drop(buf);
         media
     }

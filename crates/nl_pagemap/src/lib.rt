@@ -2,6 +2,7 @@
 //! leads each number to the page of the medium that it has.
 #![tactic(auto)]
 
+mod cleaning;
 mod counts;
 mod making;
 mod moving_pages;
@@ -10,4 +11,5 @@ mod pagemap;
 mod placing;
 mod virtual_pages;
 
+pub use cleaning::Cleaning;
 pub use pagemap::Pagemap;
