@@ -36,11 +36,11 @@ module _ {tells : Type 0} {geometry : Geometry} (s : Mapped) (f : IsMapped tells
   -- no block has more numbers in use
   used_less : (b : ℕ) → used_in s.shape.pages (dropped k s).table b ≤ used_in s.shape.pages s.table b
   used_less b = less (λ n. is_in s.shape.pages b (live_at s.table n)) (λ n. is_in s.shape.pages b (live_at (dropped k s).table n)) s.table.first (s.table.last - s.table.first)
-      (λ q from yes. was q (cases_eq q k) yes)
+      (λ q from has. was q (cases_eq q k) has)
     where
       was : (q : ℕ) → (q ≡ k) ⊎ (q ≡ k → ⊥) → is_in s.shape.pages b (live_at (dropped k s).table q) ≡ true → is_in s.shape.pages b (live_at s.table q) ≡ true
-      was q (inl here) yes = absurd (false≢true (ap (λ o. is_in s.shape.pages b o) (sym (released_live s.table f.numbers.table k dropped_within q ∙ cond-true (q == k) None (live_at s.table q) (eq-eqb q k here))) ∙ yes))
-      was q (inr off) yes = ap (λ o. is_in s.shape.pages b o) (sym (released_live s.table f.numbers.table k dropped_within q ∙ cond-false (q == k) None (live_at s.table q) (ne_eqb q k off))) ∙ yes
+      was q (inl here) has = absurd (false≢true (ap (λ o. is_in s.shape.pages b o) (sym (released_live s.table f.numbers.table k dropped_within q ∙ cond-true (q == k) None (live_at s.table q) (eq-eqb q k here))) ∙ has))
+      was q (inr off) has = ap (λ o. is_in s.shape.pages b o) (sym (released_live s.table f.numbers.table k dropped_within q ∙ cond-false (q == k) None (live_at s.table q) (ne_eqb q k off))) ∙ has
 
   pub dropped_mapped : IsMapped tells geometry (dropped k s)
   dropped_mapped =

@@ -44,15 +44,15 @@ module _ {tells : Type 0} {geometry : Geometry} (s : Mapped) (f : IsMapped tells
 
   used_most : (b : ℕ) → used_in s.shape.pages (given name entry s.table) b ≤ used_in s.shape.pages s.table b + 1
   used_most b = less_but_one (λ n. is_in s.shape.pages b (live_at s.table n)) (λ n. is_in s.shape.pages b (live_at (given name entry s.table) n)) name s.table.first (s.table.last - s.table.first)
-      (λ q off yes. ap (λ o. is_in s.shape.pages b o) (sym (live_other q off)) ∙ yes)
+      (λ q off has. ap (λ o. is_in s.shape.pages b o) (sym (live_other q off)) ∙ has)
 
   used_other : (b : ℕ) → (entry.page / s.shape.pages ≡ b → ⊥) → used_in s.shape.pages (given name entry s.table) b ≤ used_in s.shape.pages s.table b
   used_other b off = less (λ n. is_in s.shape.pages b (live_at s.table n)) (λ n. is_in s.shape.pages b (live_at (given name entry s.table) n)) s.table.first (s.table.last - s.table.first)
-      (λ q from yes. ⊎_elim
+      (λ q from has. ⊎_elim
       (λ here.
-      let there : is_in s.shape.pages b (Some entry) ≡ true = ap (λ o. is_in s.shape.pages b o) (sym live_here) ∙ (ap (λ m. is_in s.shape.pages b (live_at (given name entry s.table) m)) (sym here) ∙ yes) in
+      let there : is_in s.shape.pages b (Some entry) ≡ true = ap (λ o. is_in s.shape.pages b o) (sym live_here) ∙ (ap (λ m. is_in s.shape.pages b (live_at (given name entry s.table) m)) (sym here) ∙ has) in
       absurd (off (eqb-true (entry.page / s.shape.pages) b there)))
-      (λ away. ap (λ o. is_in s.shape.pages b o) (sym (live_other q away)) ∙ yes)
+      (λ away. ap (λ o. is_in s.shape.pages b o) (sym (live_other q away)) ∙ has)
       (cases_eq q name))
 
   module _ (count : ℕ) (own : (m : ℕ) (d : Entry) → entry_at s.table m ≡ Some d → d.stamp ≡ entry.stamp → m ≡ name)

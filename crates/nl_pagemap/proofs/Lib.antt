@@ -1,11 +1,14 @@
+pub mod Copied
 pub mod Counted
 pub mod Dropped
 pub mod Failures
 pub mod Filled
 pub mod Found
+pub mod Forgotten
 pub mod Fresh
 pub mod Granted
 pub mod Images
+pub mod Kept
 pub mod Numbers
 pub mod Over
 pub mod Pages
@@ -13,4 +16,5 @@ pub mod Placed
 pub mod Programmed
 pub mod Spent
 pub mod Wasted
+pub mod Wiped
 pub mod Written

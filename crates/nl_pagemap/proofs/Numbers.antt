@@ -17,6 +17,7 @@ use Rattle.nl_pagemap_names.specs.Table.{IsTable, Table, entry_at, given, live_a
 use Rattle.nl_pagemap_names.specs.Untried.{count_at, used_in}
 use Rattle.nl_pagemap_names.specs.declared.entry.Entry.{Entry}
 use Rattle.nl_pagemap_names.proofs.Changed.{given_live, released_live}
+use Rattle.nl_pagemap_names.proofs.Counting.{count_most}
 
 is_used : (o : Option Entry) → (o ≡ None → ⊥) → is_some o ≡ true
 is_used None some = absurd (some refl)
@@ -132,3 +133,13 @@ numbers_without shape t n has = record {
   first = has.first;
   last = has.last;
 }
+
+-- no more numbers are in use than the medium has pages
+pub few_used : {tells : Type 0} {geometry : Geometry} {s : Mapped} → IsMapped tells geometry s → s.count ≤ 262144
+few_used {tells} {geometry} {s} f =
+    let count = f.count in
+    let most = count_most (λ n. is_some (page_live s.table n)) (first_physical s.shape) (s.shape.pblocks * s.shape.pages) in
+    let all = f.bounds.all_pages in
+    let ends = segment_ends f in
+    let last = f.numbers.last in
+    omega (arith, count, most, all, ends, last)

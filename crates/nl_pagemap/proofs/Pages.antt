@@ -17,10 +17,10 @@ module _ (size : ℕ) (some : 0 < size) where
       ap (λ q. q / size) whole ∙ div-mul-add b size (p - b * size) less
 
   pub block_from : (v p : ℕ) → v * size ≤ p → v ≤ p / size
-  block_from v p from = (le-div_iff_mul-le {v} {p} {size} some).1 from
+  block_from v p from = (le-div_iff_mul-le {k = size} {x = v} {y = p} some).1 from
 
   pub block_below : (n p : ℕ) → p < n * size → p / size < n
-  block_below n p below = (div-lt_iff_lt-mul {size} {p} {n} some).1 below
+  block_below n p below = (div-lt_iff_lt-mul {k = size} {x = p} {y = n} some).1 below
 
   -- a page of another block is before it or behind it
   pub beside : (b p : ℕ) → (p / size ≡ b → ⊥) → (p < b * size) ⊎ (b * size + size ≤ p)
@@ -33,7 +33,7 @@ module _ (size : ℕ) (some : 0 < size) where
 pub ends_before : (n b size : ℕ) → b < n → b * size + size ≤ n * size
 ends_before n b size below =
     let whole : (b + 1) * size ≡ b * size + size = omega arith in
-    let le = mul-le-mul_right size (omega (arith, below)) in
+    let le = mul-le-mul_right {m = b + 1} {n = n} size (omega (arith, below)) in
     omega (arith, whole, le)
 
 module _ (shape : Shape) (xs : List ℕ) (block k : ℕ) (from : shape.vblocks ≤ block) (within : block - shape.vblocks < length xs) where

@@ -99,7 +99,7 @@ module _ {tells : Type 0} {geometry : Geometry} (s : Mapped) (f : IsMapped tells
         let bound = f.virtual.bound in
         let all : geometry.blocks * geometry.pages ≡ s.shape.blocks * s.shape.pages = λ i. f.blocks i * f.pages i in
         let segments = f.bounds.segments in
-        let le = mul-le-mul_right s.shape.pages (omega (arith, segments)) in
+        let le = mul-le-mul_right {m = s.shape.vblocks} {n = s.shape.blocks} s.shape.pages (omega (arith, segments)) in
         omega (arith, bound, le, all);
   }
 

@@ -3,6 +3,7 @@
 #![tactic(auto)]
 
 mod cleaning;
+mod copying;
 mod counts;
 mod making;
 mod moving_pages;

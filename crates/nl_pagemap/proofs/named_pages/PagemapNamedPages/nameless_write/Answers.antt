@@ -7,7 +7,7 @@ use Rattle.nl_pagemap.specs.Placing.{IsProgrammed, next_entry, placed}
 use Rattle.nl_pagemap.specs.Stands.{IsMapped}
 use Rattle.nl_pagemap.proofs.Failures.{done_faults, done_stamp, earlier, failed_faults, failed_stamp}
 use Rattle.nl_pagemap.proofs.Programmed.{not_both}
-use Rattle.nl_pagemap.proofs.Numbers.{within}
+use Rattle.nl_pagemap.proofs.Numbers.{few_used, within}
 use Rattle.nl_pagemap.proofs.Placed.{bytes_here, bytes_kept, count_now, is_new, left_with, live_now, map_now, named_other, placed_mapped, stays, wrote}
 use Rattle.nl_pagemap.proofs.Wasted.{fails, left_without, wasted_bytes, wasted_map, wasted_mapped}
 use Rattle.nl_pagemap_names.specs.Table.{given}
@@ -19,6 +19,12 @@ pub give-requires : goal.give-requires
 give-requires g c =
     subst (λ (x : Mapped). c.new_pointer-at.result.name < length x.table.entries) (sym c.program.ensures.spends)
     (within c.requires.formed c.new_pointer-at.result.name c.new_pointer-at.ensures.below)
+
+pub overflow_add-self : goal.overflow_add-self
+overflow_add-self g c =
+    let same = ap (λ (x : Mapped). x.count) c.program.ensures.spends in
+    let few = few_used c.requires.formed in
+    omega (arith, same, few)
 
 pub returns-then-self-eq0-clause-left : goal.returns-then-self-eq0-clause-left
 returns-then-self-eq0-clause-left g c told = record {
