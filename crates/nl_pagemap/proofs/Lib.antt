@@ -1,3 +1,4 @@
+pub mod Chosen
 pub mod Copied
 pub mod Counted
 pub mod Dropped

@@ -42,7 +42,7 @@ entry_block {tells} {geometry} {s} f n e is =
     (block_from s.shape.pages some s.shape.vblocks e.page w.page_from, block_below s.shape.pages some s.shape.blocks e.page w.page_below)
 
 -- The numbers in use and the pages that were not tried are no more than the pages of the segment.
-all_fit : {tells : Type 0} {geometry : Geometry} {s : Mapped} → IsMapped tells geometry s
+pub all_fit : {tells : Type 0} {geometry : Geometry} {s : Mapped} → IsMapped tells geometry s
     → count_by (λ n. is_some (live_at s.table n)) (range_with_len s.table.first (s.table.last - s.table.first)) + untried_in s ≤ s.shape.pblocks * s.shape.pages
 all_fit {tells} {geometry} {s} f =
     let count = f.counts.count in
@@ -143,3 +143,12 @@ few_used {tells} {geometry} {s} f =
     let ends = segment_ends f in
     let last = f.numbers.last in
     omega (arith, count, most, all, ends, last)
+
+-- nor have they more that were not tried
+pub few_untried : {tells : Type 0} {geometry : Geometry} {s : Mapped} → IsMapped tells geometry s → untried_in s ≤ 262144
+few_untried {tells} {geometry} {s} f =
+    let fit = all_fit f in
+    let all = f.bounds.all_pages in
+    let ends = segment_ends f in
+    let last = f.numbers.last in
+    omega (arith, fit, all, ends, last)

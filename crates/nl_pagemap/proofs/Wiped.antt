@@ -5,7 +5,10 @@ use Rattle.std.proofs.Math.Nat.{lt-div-mul-add, mul-le-mul_right}
 use Rattle.std.proofs.lemmas.Bool.{cases_eq, cases_lt, false_from_ne_true, false≢true}
 use Rattle.std.proofs.lemmas.List.{length-set}
 use Rattle.nl_field.specs.Medium.{first_physical}
-use Rattle.nl_field.specs.Page.{Image, erased, page_at}
+use Rattle.nl_field.specs.Page.{Image, Page, erased, page_at}
+use Rattle.nl_nand.specs.Nand.{OperationLeaves}
+use Rattle.nl_nand.specs.declared.answers.WriteAnswer.{WriteAnswer}
+use Rattle.nl_nand.specs.declared.answers.WriteAnswer.TheVariants as write
 use Rattle.nl_nand.specs.declared.geometry.Geometry.{Geometry}
 use Rattle.nl_pagemap.specs.Cleaning.{IsFull, KeepsNumbers}
 use Rattle.nl_pagemap.specs.Laws.{live_entry}
@@ -18,6 +21,20 @@ use Rattle.nl_pagemap_names.specs.Table.{entry_at, live_at}
 use Rattle.nl_pagemap_names.specs.Untried.{is_in, used_in}
 use Rattle.nl_pagemap_names.specs.declared.entry.Entry.{Entry}
 use Rattle.nl_pseg_pages.specs.Pages.{main_of, shown_by}
+
+-- no page of another block has changed
+pub erase_outside : (answer : WriteAnswer) (low high : ℕ) (value : Page) (old new : Image) → OperationLeaves low high value old answer new
+    → (p : ℕ) → (p < low) ⊎ (high ≤ p) → page_at new p ≡ page_at old p
+erase_outside write.Done low high value old new k p off = k.outside p off
+erase_outside write.Failed low high value old new k p off = ⊎_elim
+    (λ same. same)
+    (λ here. absurd (let a = here.0 in let b = here.1 in ⊎_elim (λ lt. omega (arith, a, lt)) (λ le. omega (arith, b, le)) off))
+    (k.each p)
+
+-- where it was done, each page of the block is erased
+pub erase_inside : (answer : WriteAnswer) (low high : ℕ) (value : Page) (old new : Image) → answer ≡ write.Done → OperationLeaves low high value old answer new
+    → (p : ℕ) → low ≤ p → p < high → page_at new p ≡ value
+erase_inside answer low high value old new is k = (subst (λ (a : WriteAnswer). OperationLeaves low high value old a new) is k).inside
 
 module _ {tells : Type 0} {geometry : Geometry} (block : ℕ) (s : Mapped) (image : Image) (f : IsMapped tells geometry s) (h : IsFull s block)
     (empty : (n : ℕ) (e : Entry) → entry_at s.table n ≡ Some e → e.page / s.shape.pages ≡ block → ⊥)
