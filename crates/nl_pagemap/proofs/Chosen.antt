@@ -1,8 +1,8 @@
 -- Which block is cleaned first.
-use Rattle.std.proofs.Common.{◌≡◌, ℕ, ◌+◌, ◌-◌, ◌<◌, ◌≤◌, sym, subst, arith}
+use Rattle.std.proofs.Common.{◌≡◌, ℕ, ◌+◌, ◌-◌, ◌<◌, ◌≤◌, subst, arith}
 use Rattle.nl_nand.specs.declared.geometry.Geometry.{Geometry}
 use Rattle.nl_pagemap.specs.Cleaning.{CanBeCleaned, IsCleanedFirst}
-use Rattle.nl_pagemap.specs.Mapped.{Mapped, in_use}
+use Rattle.nl_pagemap.specs.Mapped.{Mapped}
 use Rattle.nl_pagemap.specs.Stands.{IsMapped}
 use Rattle.nl_pagemap_names.specs.Untried.{HasDead, IsFewest, count_at, used_in}
 

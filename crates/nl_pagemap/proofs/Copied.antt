@@ -1,18 +1,18 @@
 -- The page of a number in use was copied to the next page of a block.
-use Rattle.std.proofs.Common.{◌≡◌, ◌⊎◌, inl, inr, ⊎_elim, ℕ, ◌+◌, ◌-◌, ◌*◌, ◌/◌, ◌<◌, ◌≤◌, ◌==◌, ◌^◌, true, false, List, Option, Some, None, is_some, option_map, refl, sym, ◌∙◌, ap, subst, arith, eq-eqb, ne_eqb}
+use Rattle.std.proofs.Common.{◌≡◌, inl, ⊎_elim, ℕ, ◌+◌, ◌-◌, ◌*◌, ◌/◌, ◌<◌, ◌≤◌, false, List, Some, is_some, option_map, refl, sym, ◌∙◌, ap, subst, arith, eq-eqb, ne_eqb}
 use Rattle.std.proofs.lemmas.Bool.{cases_eq}
 use Rattle.nl_field.specs.Medium.{first_physical}
 use Rattle.nl_field.specs.Page.{Image, page_at}
 use Rattle.nl_nand.specs.declared.geometry.Geometry.{Geometry}
 use Rattle.nl_pagemap.specs.Cleaning.{CopiesFrom, IsFull, KeepsNumbers}
 use Rattle.nl_pagemap.specs.Laws.{live_entry}
-use Rattle.nl_pagemap.specs.Mapped.{Mapped, in_use, live_among, named_at, named_by, named_on, page_live, page_of, untried_in, untried_of}
+use Rattle.nl_pagemap.specs.Mapped.{Mapped, live_among, named_at, named_by, named_on, page_live, page_of, untried_in, untried_of}
 use Rattle.nl_pagemap.specs.Placing.{ChangesNext, HasNext, IsProgrammed, copied, next_entry, spent}
 use Rattle.nl_pagemap.specs.Stands.{IsEntry, IsMapped}
 use Rattle.nl_pagemap.proofs.Counted.{one_more, same_count}
 use Rattle.nl_pagemap.proofs.Granted.{entry_here, entry_other, granted_mapped, live_here, live_other}
 use Rattle.nl_pagemap.proofs.Spent.{few_left, less, one_less, page_below, page_block, page_from, slack, spent_map, spent_mapped, spent_named, sum_less}
-use Rattle.nl_pagemap_names.specs.Table.{entry_at, given, live_at}
+use Rattle.nl_pagemap_names.specs.Table.{entry_at, live_at}
 use Rattle.nl_pagemap_names.specs.Untried.{is_in, used_in}
 use Rattle.nl_pagemap_names.specs.declared.entry.Entry.{Entry}
 use Rattle.nl_pseg_pages.specs.Pages.{main_of, shown_by}

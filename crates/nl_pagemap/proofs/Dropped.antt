@@ -1,7 +1,6 @@
 -- A number is in use no longer.
 use Rattle.std.proofs.Common.{◌≡◌, ◌⊎◌, inl, inr, ℕ, ◌+◌, ◌-◌, ◌<◌, ◌≤◌, ◌==◌, Option, Some, None, option_map, length, refl, sym, ◌∙◌, ap, arith, eq-eqb, eqb-true, ne_eqb, true}
 use Rattle.std.proofs.lemmas.Bool.{cases_eq, cond-false, cond-true, false≢true}
-use Rattle.nl_field.specs.Medium.{first_physical}
 use Rattle.nl_iface.specs.Names.{has_stamp, without_page}
 use Rattle.nl_nand.specs.declared.geometry.Geometry.{Geometry}
 use Rattle.nl_pagemap.specs.Laws.{live_entry}

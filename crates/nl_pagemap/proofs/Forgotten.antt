@@ -1,14 +1,15 @@
 -- The numbers that are not in use keep no entry.
-use Rattle.std.proofs.Common.{◌≡◌, ◌⊎◌, inl, inr, ℕ, ◌+◌, ◌-◌, ◌*◌, ◌≤◌, Bool, true, false, cond, count_by, List, Option, Some, None, is_some, option_map, length, get_or, refl, sym, ◌∙◌, ap, subst, arith}
+use Rattle.std.proofs.Common.{◌≡◌, ◌⊎◌, inl, inr, ℕ, ◌+◌, ◌-◌, ◌*◌, ◌/◌, Bool, true, false, cond, count_by, Option, Some, None, is_some, option_map, length, get_or, refl, sym, ◌∙◌, ap, subst, arith, eq-eqb}
 use Rattle.std.specs.List.{range_with_len}
+use Rattle.std.proofs.lemmas.Bool.{false≢true}
 use Rattle.nl_field.specs.Medium.{first_physical}
 use Rattle.nl_nand.specs.declared.geometry.Geometry.{Geometry}
 use Rattle.nl_pagemap.specs.Cleaning.{KeepsNumbers}
 use Rattle.nl_pagemap.specs.Laws.{live_entry}
-use Rattle.nl_pagemap.specs.Mapped.{Mapped, live_among, named_at, named_by, page_live, page_of, untried_of}
+use Rattle.nl_pagemap.specs.Mapped.{Mapped, named_at, named_by, page_live, page_of}
 use Rattle.nl_pagemap.specs.Stands.{IsEntry, IsMapped}
 use Rattle.nl_pagemap.proofs.Counted.{same_count}
-use Rattle.nl_pagemap_names.specs.Table.{ForgetsReleased, Table, entry_at, entry_in, live_at, live_in}
+use Rattle.nl_pagemap_names.specs.Table.{ForgetsReleased, Table, entry_at, live_at}
 use Rattle.nl_pagemap_names.specs.Untried.{is_in, used_in}
 use Rattle.nl_pagemap_names.specs.declared.entry.Entry.{Entry}
 
@@ -80,3 +81,10 @@ module _ {tells : Type 0} {geometry : Geometry} (s : Mapped) (t : Table) (f : Is
     map = λ told v. refl;
     stored = λ told n. stored n;
   }
+
+-- where no number in use has its page in a block, none at all has
+pub forgotten_off : (size block : ℕ) (s t : Table) → ForgetsReleased s t → ((n : ℕ) → is_in size block (live_at s n) ≡ false)
+    → (n : ℕ) (e : Entry) → entry_at t n ≡ Some e → e.page / size ≡ block → ⊥
+forgotten_off size block s t k off n e is here =
+    let none : is_in size block (Some e) ≡ false = sym (ap (λ o. is_in size block o) (sym (k.entries n) ∙ is)) ∙ off n in
+    false≢true (sym none ∙ eq-eqb (e.page / size) block here)

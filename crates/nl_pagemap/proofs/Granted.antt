@@ -1,5 +1,5 @@
 -- A number is given an entry.
-use Rattle.std.proofs.Common.{◌≡◌, ◌⊎◌, inl, inr, ⊎_elim, ℕ, ◌+◌, ◌-◌, ◌*◌, ◌/◌, ◌<◌, ◌≤◌, ◌==◌, if◌then◌else◌, true, Some, length, refl, sym, ◌∙◌, ap, subst, arith, eqb-true, ne_eqb, eq-eqb}
+use Rattle.std.proofs.Common.{◌≡◌, ◌⊎◌, inl, inr, ⊎_elim, ℕ, ◌+◌, ◌-◌, ◌/◌, ◌<◌, ◌≤◌, ◌==◌, if◌then◌else◌, true, Some, length, refl, sym, ◌∙◌, ap, subst, arith, eqb-true, ne_eqb, eq-eqb}
 use Rattle.std.proofs.lemmas.Bool.{cases_eq, cond-false, cond-true}
 use Rattle.std.proofs.lemmas.Option.{same_Some}
 use Rattle.nl_field.specs.Page.{page_at}

@@ -1,7 +1,6 @@
 -- What it says that the numbers keep what they had.
-use Rattle.std.proofs.Common.{◌≡◌, ◌⊎◌, inl, inr, ⊎_elim, ℕ, ◌*◌, ◌≤◌, List, Some, None, refl, sym, ◌∙◌, ap, subst, arith}
+use Rattle.std.proofs.Common.{◌≡◌, inl, inr, ⊎_elim, ℕ, ◌*◌, Some, refl, sym, ◌∙◌, ap}
 use Rattle.std.proofs.lemmas.Option.{none-some, same_Some}
-use Rattle.nl_field.specs.Page.{Image}
 use Rattle.nl_iface.specs.Left.{HoldsLive, LeavesPages}
 use Rattle.nl_iface.specs.Moves.{LeavesErased}
 use Rattle.nl_iface.specs.Names.{LivePage, SameTables}
@@ -9,7 +8,7 @@ use Rattle.nl_iface.specs.Stored.{NamedPage}
 use Rattle.nl_nand.specs.declared.geometry.Geometry.{Geometry}
 use Rattle.nl_pagemap.specs.Cleaning.{ChangesRoom, KeepsNumbers}
 use Rattle.nl_pagemap.specs.Laws.{holds_live, leaves_in}
-use Rattle.nl_pagemap.specs.Mapped.{Mapped, bytes_at, live_among, names_of, named_at, page_live, space_of, stored_in}
+use Rattle.nl_pagemap.specs.Mapped.{Mapped, bytes_at, live_among, names_of, page_live, space_of, stored_in}
 use Rattle.nl_pagemap.specs.Stands.{IsMapped}
 
 pub keeps_same : (tells : Type 0) (s : Mapped) → KeepsNumbers tells s s

@@ -1,8 +1,8 @@
 -- What the program of the next page leaves.
-use Rattle.std.proofs.Common.{◌≡◌, inl, inr, ⊎_elim, ℕ, ◌+◌, ◌-◌, ◌*◌, ◌/◌, ◌<◌, ◌≤◌, ◌^◌, nat_le, nat_lt, IsTrue, sym, ap, subst, arith}
+use Rattle.std.proofs.Common.{◌≡◌, inl, inr, ⊎_elim, ℕ, ◌+◌, ◌*◌, ◌/◌, ◌<◌, ◌≤◌, ◌^◌, nat_le, nat_lt, IsTrue, sym, ap, subst, arith}
 use Rattle.std.proofs.Math.Nat.{mul-le-mul_right}
 use Rattle.std.proofs.lemmas.Bool.{and_from, cases_lt, le-leb, lt-ltb}
-use Rattle.nl_field.specs.Page.{Image, Page, erased, page_at}
+use Rattle.nl_field.specs.Page.{Image, Page, page_at}
 use Rattle.nl_field.specs.Spelling.{is_stamp}
 use Rattle.nl_nand.specs.Nand.{CanProgram, OperationLeaves}
 use Rattle.nl_nand.specs.declared.answers.WriteAnswer.{WriteAnswer}

@@ -1,5 +1,5 @@
 -- A program failed: its page is spent, and nothing leads to it.
-use Rattle.std.proofs.Common.{◌≡◌, inl, ℕ, ◌+◌, ◌-◌, ◌*◌, ◌<◌, ◌^◌, Some, refl, sym, ◌∙◌, ap, subst, arith}
+use Rattle.std.proofs.Common.{◌≡◌, inl, ℕ, ◌+◌, ◌-◌, ◌*◌, ◌<◌, ◌^◌, refl, sym, subst, arith}
 use Rattle.nl_field.specs.Page.{Image}
 use Rattle.nl_iface.specs.Left.{LeavesTried}
 use Rattle.nl_iface.specs.Space.{FailsToWrite}

@@ -1,10 +1,8 @@
 -- A block was erased, or its erase failed, under which no number has its page.
-use Rattle.std.proofs.Common.{◌≡◌, ◌⊎◌, inl, inr, ⊎_elim, ℕ, ◌+◌, ◌-◌, ◌*◌, ◌/◌, ◌<◌, ◌≤◌, ◌^◌, true, false, List, Option, Some, None, length, slice_set, sum, refl, sym, ◌∙◌, ap, subst, arith, eqb-true}
-use Rattle.std.specs.List.{range_with_len}
+use Rattle.std.proofs.Common.{◌≡◌, ◌⊎◌, inl, ⊎_elim, ℕ, ◌+◌, ◌-◌, ◌*◌, ◌/◌, ◌<◌, ◌≤◌, false, List, Option, Some, None, length, slice_set, sum, refl, sym, ◌∙◌, ap, subst, arith, eqb-true}
 use Rattle.std.proofs.Math.Nat.{lt-div-mul-add, mul-le-mul_right}
-use Rattle.std.proofs.lemmas.Bool.{cases_eq, cases_lt, false_from_ne_true, false≢true}
+use Rattle.std.proofs.lemmas.Bool.{cases_eq, false_from_ne_true}
 use Rattle.std.proofs.lemmas.List.{length-set}
-use Rattle.nl_field.specs.Medium.{first_physical}
 use Rattle.nl_field.specs.Page.{Image, Page, erased, page_at}
 use Rattle.nl_nand.specs.Nand.{OperationLeaves}
 use Rattle.nl_nand.specs.declared.answers.WriteAnswer.{WriteAnswer}
@@ -12,7 +10,7 @@ use Rattle.nl_nand.specs.declared.answers.WriteAnswer.TheVariants as write
 use Rattle.nl_nand.specs.declared.geometry.Geometry.{Geometry}
 use Rattle.nl_pagemap.specs.Cleaning.{IsFull, KeepsNumbers}
 use Rattle.nl_pagemap.specs.Laws.{live_entry}
-use Rattle.nl_pagemap.specs.Mapped.{Mapped, named_at, untried_in, untried_of}
+use Rattle.nl_pagemap.specs.Mapped.{Mapped, untried_of}
 use Rattle.nl_pagemap.specs.Stands.{IsMapped}
 use Rattle.nl_pagemap.proofs.Counted.{none_pass}
 use Rattle.nl_pagemap.proofs.Images.{map_same, named_same, segment_same}

@@ -21,6 +21,10 @@ pub record IsCleanedFirst (s : Mapped) (block : ℕ) : Type 0 where
   pub can : CanBeCleaned s block
   pub fewest : (other : ℕ) → CanBeCleaned s other → in_use s block ≤ in_use s other
 
+-- The block was cleaned that is cleaned first. As many pages more can be tried as it had dead ones.
+abbrev pub CleansFirst : Mapped → Mapped → Type 0
+CleansFirst s t = (block : ℕ) × IsCleanedFirst s block × (untried_in t + in_use s block ≡ untried_in s + s.shape.pages)
+
 -- The block was cleaned that is cleaned first. As many pages more can be tried as it had dead ones. As long as one block's pages are kept
 -- back, there is so much more room.
 pub record GainsDead (s t : Mapped) : Type 0 where

@@ -5,7 +5,6 @@ use Rattle.std.proofs.Math.Nat.{div-mul-le_self, lt-div-mul-add}
 use Rattle.std.proofs.lemmas.List.{get_or_past}
 use Rattle.std.proofs.lemmas.Option.{none-some, same_Some}
 use Rattle.nl_field.specs.Live.{LiveEntry}
-use Rattle.nl_field.specs.Medium.{first_physical}
 use Rattle.nl_field.specs.Page.{Image, page_at}
 use Rattle.nl_iface.specs.Device.{IsDeviceState, entry_with, state_of}
 use Rattle.nl_iface.specs.Left.{HoldsLive, HoldsStamp, LeavesPages}

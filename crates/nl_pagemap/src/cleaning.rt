@@ -3,7 +3,7 @@ ghost use Rattle.std.specs.Prelude.{◌≡◌, ◌↔◌, ◌+◌, ◌/◌, ◌�
 ghost use Rattle.nl_iface.specs.Calls.{CallCounted, OnlyReads, stored};
 ghost use Rattle.nl_iface.specs.Moves.{ErasesAtCrashes, KeepsCleaning, LeavesErased};
 ghost use Rattle.nl_iface.specs.Names.{SameTables};
-ghost use Rattle.nl_pagemap.specs.Cleaning.{CanBeCleaned, ChangesRoom, CopiesFrom, GainsDead, IsCleanedFirst, IsFull, KeepsNumbers, medium_of};
+ghost use Rattle.nl_pagemap.specs.Cleaning.{CanBeCleaned, ChangesRoom, CleansFirst, CopiesFrom, GainsDead, IsCleanedFirst, IsFull, KeepsNumbers, medium_of};
 ghost use Rattle.nl_pagemap.specs.Mapped.{in_use, seen, untried_in};
 ghost use Rattle.nl_pagemap.specs.Stands.{IsMapped};
 ghost use Rattle.nl_pagemap_names.specs.Table.{ForgetsReleased, entry_at, live_at};
@@ -45,6 +45,21 @@ impl<M: Nand> Pagemap<M> {
         ensures left { M.tells → ErasesAtCrashes ⟦<Pagemap<M> as Counts>⟧ self.old self.new }
         ensures kept { KeepsCleaning ⟦<Pagemap<M> as Counts>⟧ self.old self.new }
         ensures faults { CallCounted ⟦<Pagemap<M> as Counts>⟧ (result ≡ Cleaning.Fault) self.old self.new }
+    {
+        self.clean_next()
+    }
+
+    /// Cleans the block that is cleaned first.
+    fn clean_next(&mut self) -> Cleaning
+        requires formed { IsMapped M.tells (M.geometry self.old.media) (seen M.contents self.old) }
+        ensures formed { IsMapped M.tells (M.geometry self.new.media) (seen M.contents self.new) }
+        ensures nothing { result ≡ Cleaning.Nothing ↔ ((block : ℕ) → CanBeCleaned (seen M.contents self.old) block → ⊥) }
+        ensures same { result ≡ Cleaning.Nothing → self.new ≡ self.old }
+        ensures gained { result ≡ Cleaning.Done → CleansFirst (seen M.contents self.old) (seen M.contents self.new) }
+        ensures spent { result ≡ Cleaning.Fault → untried_in (seen M.contents self.new) ≤ untried_in (seen M.contents self.old) }
+        ensures kept { KeepsNumbers M.tells (seen M.contents self.old) (seen M.contents self.new) }
+        ensures clock { M.clock self.old.media ≤ M.clock self.new.media }
+        ensures counted { CallCounted ⟦<Pagemap<M> as Counts>⟧ (result ≡ Cleaning.Fault) self.old self.new }
     {
         let Some(block) = self.cleaned_first() else {
             return Cleaning::Nothing;

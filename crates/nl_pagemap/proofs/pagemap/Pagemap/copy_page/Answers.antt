@@ -6,7 +6,7 @@ use Rattle.nl_pagemap.specs.Mapped.{Mapped, seen}
 use Rattle.nl_pagemap.specs.Placing.{ChangesNext, HasNext, IsProgrammed, copied, next_entry, next_of, spent}
 use Rattle.nl_pagemap.specs.Stands.{IsMapped}
 use Rattle.nl_pagemap.proofs.Copied.{copied_from, copied_keeps, copied_mapped, copied_off, lost_keeps, lost_mapped}
-use Rattle.nl_pagemap_names.specs.Table.{Table, given, live_at}
+use Rattle.nl_pagemap_names.specs.Table.{given, live_at}
 use Rattle.nl_pagemap_names.specs.Untried.{is_in}
 use Rattle.nl_pseg_pages.specs.Pages.{page_with}
 use Rattle.nl_pagemap.proofs.pagemap.Pagemap.copy_page.Goals as goal

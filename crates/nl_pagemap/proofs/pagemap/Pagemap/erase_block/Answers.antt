@@ -3,7 +3,6 @@ use Rattle.std.proofs.Math.Nat.{div-mul-le_self, lt-div-mul-add}
 use Rattle.nl_field.specs.Page.{erased, page_at}
 use Rattle.nl_nand.specs.Nand.{OperationLeaves}
 use Rattle.nl_nand.specs.declared.geometry.Geometry.{Geometry}
-use Rattle.nl_pagemap.specs.Cleaning.{KeepsNumbers}
 use Rattle.nl_pagemap.specs.Mapped.{Mapped, seen}
 use Rattle.nl_pagemap.specs.Stands.{IsMapped}
 use Rattle.nl_pagemap.proofs.Numbers.{few_untried}

@@ -1,4 +1,4 @@
-use Rattle.std.proofs.Common.{◌≡◌, ◌*◌, ◌<◌, arith}
+use Rattle.std.proofs.Common.{◌≡◌, ◌*◌, arith}
 use Rattle.nl_pagemap.proofs.Programmed.{spelled}
 use Rattle.nl_pagemap.proofs.pagemap.Pagemap.read_entry.Goals as goal
 

@@ -1,11 +1,7 @@
-use Rattle.std.proofs.Common.{◌≡◌, ◌∙◌, ap, refl, sym, subst, arith}
-use Rattle.nl_field.specs.Page.{page_at, written}
+use Rattle.std.proofs.Common.{◌∙◌, sym, subst, arith}
 use Rattle.nl_nand.specs.Nand.{CanProgram}
-use Rattle.nl_pagemap.specs.Mapped.{seen}
-use Rattle.nl_pagemap.specs.Placing.{next_of}
-use Rattle.nl_pagemap.proofs.Programmed.{can_program, inside, next_within, outside}
+use Rattle.nl_pagemap.proofs.Programmed.{can_program, next_within}
 use Rattle.nl_pagemap.proofs.pagemap.Pagemap.try_page.Goals as goal
-use Rattle.nl_pseg_pages.specs.Pages.{page_with}
 
 pub program_page-answer-requires-clause-within : goal.program_page-answer-requires-clause-within
 program_page-answer-requires-clause-within g c =
