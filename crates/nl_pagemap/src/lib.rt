@@ -1,5 +1,5 @@
 //! A page-mapped device over a flash medium: pages by virtual address, and pages under numbers that never change. A table in memory
-//! leads each number to the page of the medium that it has.
+//! leads each number to the page of the medium that it has. A call of its own cleans a block.
 #![tactic(auto)]
 
 mod cleaning;
