@@ -1,5 +1,5 @@
 -- By block, how many of its pages can be tried, and how many are in use; and which block has most to gain.
-use Rattle.std.specs.Prelude.{◌≡◌, ℕ, ◌+◌, ◌-◌, ◌/◌, ◌^◌, ◌<◌, ◌≤◌, ◌==◌, Bool, false, List, length, sum, count_by, slice_index_or, Option, Some, None}
+use Rattle.std.specs.Prelude.{◌≡◌, ℕ, ◌-◌, ◌/◌, ◌^◌, ◌<◌, ◌≤◌, ◌==◌, Bool, false, List, length, sum, count_by, slice_index_or, Option, Some, None}
 use Rattle.std.specs.List.{range_with_len}
 use Rattle.nl_pagemap_names.specs.Table.{Table, live_at}
 use Rattle.nl_pagemap_names.specs.declared.entry.Entry.{Entry}

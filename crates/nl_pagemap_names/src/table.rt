@@ -183,7 +183,8 @@ fn forget_one(entries: &mut Vec<Option<Entry>>, used: &Vec<bool>, at: usize)
 }
 
 fn clear(counts: &mut Vec<u32>)
-    ensures { counts.new.items ≡ replicate (length counts.old.items) 0 }
+    ensures length { length counts.new.items ≡ length counts.old.items }
+    ensures clear { (i : ℕ) → count_at counts.new.items i ≡ 0 }
 {
     for at in 0..counts.len() {
         counts[at] = 0;
