@@ -1,3 +1,4 @@
+use Rattle.std.proofs.Common.{refl}
 use Rattle.nl_core_new.proofs.Written.{core_on, read_on}
 use Rattle.nl_core_new.proofs.making.open_with.Goals as goal
 
@@ -7,4 +8,4 @@ returns-in-Ready-clause-written g c =
     let s = c.args.device in
     let t = c.write_volume.new.device in
     let u = c.recover.new.device in
-    core_on G s t u 2 c.begun.result (read_on G s t u 2 c.if-not-write_volume.ensures.written c.recover.ensures.device) c.begun.ensures.same
+    core_on G s t u 2 c.begun.result (read_on G s t u 2 (c.if-not-write_volume.ensures.written refl) c.recover.ensures.device) c.begun.ensures.same
