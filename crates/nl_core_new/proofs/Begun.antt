@@ -1,5 +1,5 @@
 -- A core that is begun over a device on which no page of a file is live.
-use Rattle.std.proofs.Common.{◌≡◌, ℕ, ◌+◌, ◌*◌, ◌<◌, ◌≤◌, List, [], ◌∷◌, map, length, None, refl, sym, ap, subst, ◌∙◌, arith}
+use Rattle.std.proofs.Common.{◌≡◌, ℕ, ◌+◌, ◌*◌, ◌≤◌, List, [], ◌∷◌, map, length, refl, sym, ap, subst, ◌∙◌, arith}
 use Rattle.std.specs.Prelude.{is_some}
 use Rattle.std.proofs.lemmas.Option.{none-some}
 use Rattle.nl_field.specs.CrashStates.{top}
@@ -13,12 +13,9 @@ use Rattle.nl_field.specs.declared.shape.Shape.{Shape}
 use Rattle.nl_tree.specs.Tree.{empty_tree}
 use Rattle.nl_flight.specs.Flight.{InFlight, IsFlight, carried, nothing}
 use Rattle.nl_spec_holders.specs.Opening.{OpensHolding}
-use Rattle.nl_iface.specs.Device.{IsVolumeShape}
 use Rattle.nl_iface.specs.Holders.{tagged, times}
 use Rattle.nl_iface.specs.Moves.{Retains}
-use Rattle.nl_iface.specs.Names.{Has, IsNames, IsTableOfNames, led}
-use Rattle.nl_iface.specs.Space.{CanLand}
-use Rattle.nl_iface.specs.declared.Callback.{Callback}
+use Rattle.nl_iface.specs.Names.{Has}
 use Rattle.nl_iface.specs.declared.counts.Counts.{Ghosts}
 use Rattle.nl_journal.specs.Committing.{committed_on}
 use Rattle.nl_journal.specs.Outcomes.{IsHome}
@@ -33,7 +30,6 @@ use Rattle.nl_journal_commit.specs.Holding.{running_holders}
 use Rattle.nl_journal_commit.specs.Standing.{IsJournaled}
 use Rattle.nl_spec_commits.specs.Committed.{read_as}
 use Rattle.nl_spec_commits.specs.Held.{IsHeldVolume, opened}
-use Rattle.nl_spec_commits.specs.Standing.{IsFirm}
 use Rattle.nl_spec_commits.proofs.Holding.{opening_is_held}
 use Rattle.nl_spec_commits.proofs.Reading.{committed_reads}
 use Rattle.nl_recover.specs.Recovering.{IsWalked}

@@ -1,1 +1,1 @@
-pub mod Idle
+pub mod Firm

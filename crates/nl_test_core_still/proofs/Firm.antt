@@ -1,18 +1,16 @@
--- A memory on which nothing is written is idle, and what a memory stores is always firm.
-use Rattle.std.proofs.Common.{◌≡◌, ◌*◌, Option, option_map, refl, sym, ap, subst, ◌∙◌, arith}
+-- What a memory stores can be opened, and the numbers of the least volume.
+use Rattle.std.proofs.Common.{◌≡◌, refl, sym, ap, subst, ◌∙◌}
 use Rattle.std.proofs.lemmas.Option.{same_Some}
 use Rattle.nl_field.specs.Numbers.{shape_for}
 use Rattle.nl_field.specs.declared.shape.Shape.{Shape}
 use Rattle.nl_iface.specs.Device.{IsVolumeShape}
 use Rattle.nl_iface.specs.Stored.{NamedAgree, NamedPage}
 use Rattle.nl_testkit_still.specs.Laws.{holds_live, leaves_pages, named_below, was_some}
-use Rattle.nl_testkit_still.specs.Stands.{IsFreshStill, IsStill}
-use Rattle.nl_testkit_still.specs.Still.{bytes_at, holding, label_at, named_at, page_of, stored_in}
+use Rattle.nl_testkit_still.specs.Stands.{IsStill}
+use Rattle.nl_testkit_still.specs.Still.{bytes_at, holding, label_at, named_at, stored_in}
 use Rattle.nl_testkit_still.specs.contracts.counts.StillCounts.TheImpl.{ghosts}
-use Rattle.nl_testkit_still.specs.declared.still.Label.{Label}
 use Rattle.nl_testkit_still.specs.declared.still.Still.{Still}
-use Rattle.nl_testkit_still.proofs.Fresh.{all_none}
-use Rattle.nl_core_new.specs.Idle.{IsAlwaysFirm, IsIdle}
+use Rattle.nl_core_new.specs.Idle.{IsAlwaysFirm}
 
 -- pages of one stamp are one page
 agree : (s : Still) → IsStill s → NamedAgree (stored_in s)
@@ -28,17 +26,6 @@ always_firm s tells formed = record {
   none_failed = λ v x below no. no;
   pages = record { holds = holds_live s formed; pages = leaves_pages s formed; named_below = named_below s formed };
   agree = agree s formed;
-}
-
-pub fresh_is_idle : (numbers : Shape) (s : Still) → IsStill s → IsFreshStill numbers s → IsIdle ghosts s
-fresh_is_idle numbers s stands fresh = record {
-  formed = stands;
-  no_live = λ p. ap (λ (l : Option Label). option_map page_of l) (all_none s.live.items (numbers.blocks * numbers.pages) fresh.live p);
-  no_pending = λ c has. has;
-  one_kept = refl;
-  lands = omega arith;
-  spare = tt;
-  counts = let none = fresh.failed in omega (arith, none);
 }
 
 -- the numbers of the least volume
