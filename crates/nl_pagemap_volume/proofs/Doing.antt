@@ -1,7 +1,8 @@
 -- A call, with what the device does before it and behind it.
-use Rattle.std.proofs.Common.{◌≡◌, ◌≢◌, ◌⊎◌, inl, inr, ⊎_elim, ℕ, ◌+◌, ◌<◌, ◌≤◌, ◌^◌, Bool, true, false, cond, ◌&&◌, is_none, is_some, IsTrue, List, [], Option, None, Some, refl, sym, ap, subst, ◌∙◌, arith}
+use Rattle.std.proofs.Common.{◌≡◌, ◌≢◌, ◌⊎◌, inl, inr, ⊎_elim, ℕ, ◌+◌, ◌<◌, ◌≤◌, ◌^◌, Bool, true, false, cond, ◌&&◌, is_none, is_some, IsTrue, List, [], Option, None, Some, refl, sym, ap, subst, ◌∙◌, ne_eqb, arith}
 use Rattle.std.specs.Prelude.{IfSome, MatchOption, ⊤, nat_le, ◌==◌}
-use Rattle.std.proofs.lemmas.Bool.{cases_eq, cases_lt}
+use Rattle.std.proofs.lemmas.Bool.{cases_eq}
+use Rattle.std.proofs.lemmas.Bool.Decides.{nat_tests}
 use Rattle.nl_field.specs.CrashStates.{saturated}
 use Rattle.nl_field.specs.declared.shape.Shape.{Shape}
 use Rattle.nl_tree.specs.Causes.{Counts, FaultIsDue, FaultRose, FaultState, FaultWithin, NeverFall, fault_before, fault_due, fault_in, fault_sum, fault_of_change, is_changing, max_stamp}
@@ -48,11 +49,7 @@ serves_goes g m files u v was goes core flight = record {
 -- ---- why a call has a fault
 
 none_number : (n : ℕ) → some_number n ≡ None → n ≡ 0
-none_number n none = by (n == 0) refl none
-  where
-    by : (b : Bool) → (n == 0) ≡ b → cond b None (Some n) ≡ None → n ≡ 0
-    by true is e = cc is
-    by false is e = absurd (cc e)
+none_number n none = ⊎_elim (λ is. is) (λ off. let e : cond false None (Some n) ≡ None = subst (λ b. cond b None (Some n) ≡ None) (ne_eqb n 0 off) none in absurd (cc e)) (cases_eq n 0)
 
 -- a call that changes something and is not refused can be tried
 module _ {D : Type 0} (g : Ghosts D) (v : Core D) (call : Call) (due : fault_due (refusing g v) call ≡ None) where
@@ -63,13 +60,13 @@ module _ {D : Type 0} (g : Ghosts D) (v : Core D) (call : Call) (due : fault_due
   not_stopped None n e = refl
   not_stopped (Some x) n e = absurd (cc e)
 
+  worn : (n : ℕ) (b : Bool) → nat_le max_stamp n ≡ b → cond b (Some Eworn) None ≡ None → n < 2 ^ 62
+  worn n true high e = absurd (cc e)
+  worn n false low e = grind (arith, nat_tests, low)
+
   not_worn : (o : Option ℕ) (n : ℕ) → fault_of_change o n ≡ None → n < 2 ^ 62
   not_worn (Some x) n e = absurd (cc e)
-  not_worn None n e = ⊎_elim (λ low. low) (λ high. absurd (by (nat_le max_stamp n) (grind (arith, high)) e)) (cases_lt n (2 ^ 62))
-    where
-      by : (b : Bool) → b ≡ true → cond b (Some Eworn) None ≡ None → ⊥
-      by true is e = cc e
-      by false is e = cc is
+  not_worn None n e = worn n (nat_le max_stamp n) refl e
 
   pub may_try : MayTry g call v
   may_try = record {

@@ -10,11 +10,20 @@ loop-turn-init g c = room_begins (ghosts g.row.M g.M.Nand g.M.Nand-dict) c.args.
 pub loop-turn-preserved : goal.loop-turn-preserved
 loop-turn-preserved g c =
     let G = ghosts g.row.M g.M.Nand g.M.Nand-dict in
-    let a = c.clean_one in
-    room_then G c.args.core.now c.loop-turn.core a.new.core c.loop-turn.invariant a.ensures.core a.ensures.goes a.ensures.flight (a.ensures.writes (λ is. let no : ⊥ = cc in no))
+    let e = c.in-Done.ensures in
+    room_then G c.args.core.now c.loop-turn.core c.clean_one.new.core c.loop-turn.invariant e.core e.goes e.flight (e.writes (λ is. cc is))
 
-pub returns-then-wanted-le-core-clause-core : goal.returns-then-wanted-le-core-clause-core
-returns-then-wanted-le-core-clause-core g c = c.loop-turn.invariant.core
+pub returns-in-Nothing-clause-goes : goal.returns-in-Nothing-clause-goes
+returns-in-Nothing-clause-goes g c = goes_on (ghosts g.row.M g.M.Nand g.M.Nand-dict) c.args.core.now c.loop-turn.core c.clean_one.new.core c.loop-turn.invariant c.in-Nothing.ensures.goes
+
+pub returns-in-Nothing-clause-writes : goal.returns-in-Nothing-clause-writes
+returns-in-Nothing-clause-writes g c is = c.in-Nothing.ensures.writes (λ failed. cc failed)
+
+pub returns-in-Fault-clause-goes : goal.returns-in-Fault-clause-goes
+returns-in-Fault-clause-goes g c = goes_on (ghosts g.row.M g.M.Nand g.M.Nand-dict) c.args.core.now c.loop-turn.core c.clean_one.new.core c.loop-turn.invariant c.in-Fault.ensures.goes
+
+pub returns-in-Fault-clause-failed : goal.returns-in-Fault-clause-failed
+returns-in-Fault-clause-failed g c is = rose_on (ghosts g.row.M g.M.Nand g.M.Nand-dict) c.args.core.now c.loop-turn.core c.clean_one.new.core c.loop-turn.invariant (c.in-Fault.ensures.failed refl)
 
 pub returns-clause-core : goal.returns-clause-core
 returns-clause-core g c = c.loop-turn.invariant.core
