@@ -1,9 +1,8 @@
 -- A device that nothing was written to.
-use Rattle.std.proofs.Common.{◌≡◌, ⊎_elim, ℕ, zero, suc, ◌+◌, ◌-◌, ◌*◌, ◌/◌, ◌<◌, Bool, true, false, cond, count_by, List, Option, None, is_some, option_map, length, replicate, get_or, refl, sym, ◌∙◌, ap, arith}
-use Rattle.std.specs.List.{range_with_len}
+use Rattle.std.proofs.Common.{◌≡◌, ⊎_elim, ℕ, ◌+◌, ◌-◌, ◌*◌, ◌/◌, ◌<◌, ◌≤◌, Bool, true, false, cond, sum, List, Option, None, is_some, option_map, length, replicate, get_or, refl, sym, ◌∙◌, ap, arith}
 use Rattle.std.proofs.lemmas.Bool.{cases_lt}
 use Rattle.std.proofs.lemmas.List.{get_or-replicate, get_or_past, length-replicate}
-use Rattle.std.proofs.lemmas.List.Sums.{sum_by-cons}
+use Rattle.std.proofs.lemmas.List.Folds.{sum_by-replicate}
 use Rattle.std.proofs.lemmas.Option.{none-some}
 use Rattle.nl_field.specs.Medium.{first_physical}
 use Rattle.nl_field.specs.Numbers.{ShapeBounds}
@@ -12,9 +11,11 @@ use Rattle.nl_field.specs.declared.shape.Shape.{Shape}
 use Rattle.nl_iface.specs.Device.{IsVolumeShape}
 use Rattle.nl_nand.specs.Nand.{IsBlank}
 use Rattle.nl_nand.specs.declared.geometry.Geometry.{Geometry}
-use Rattle.nl_pagemap.specs.Mapped.{Mapped, live_among, page_live, page_of}
+use Rattle.nl_pagemap.specs.Mapped.{Mapped, live_among, page_live, page_of, untried_of}
 use Rattle.nl_pagemap.specs.Stands.{IsMapped}
-use Rattle.nl_pagemap_names.specs.Table.{Table, entry_at}
+use Rattle.nl_pagemap.proofs.Counted.{none_pass}
+use Rattle.nl_pagemap_names.specs.Table.{Table, entry_at, live_at}
+use Rattle.nl_pagemap_names.specs.Untried.{is_in, used_in}
 use Rattle.nl_pagemap_names.specs.declared.entry.Entry.{Entry}
 use Rattle.nl_vseg.specs.Places.{place_of, stamp_for, stamp_in_place}
 use Rattle.nl_vseg.specs.Segment.{Segment, is_taken_as_erased}
@@ -31,18 +32,6 @@ fits h b =
     let parts : (h.vblocks + h.pblocks) * h.pages ≡ h.vblocks * h.pages + h.pblocks * h.pages = omega arith in
     let fill = b.data_pages in
     omega (arith, all, parts, fill)
-
-abbrev num : Bool → ℕ
-num b = cond b 1 0
-
--- no number of a range passes
-none_pass : (P : ℕ → Bool) (a n : ℕ) → ((k : ℕ) → P k ≡ false) → count_by P (range_with_len a n) ≡ 0
-none_pass P a zero none = refl
-none_pass P a (suc n) none =
-    let x : count_by P (range_with_len a (suc n)) ≡ num (P a) + count_by P (range_with_len (a + 1) n) = sum_by-cons (λ q. num (P q)) a (range_with_len (a + 1) n) in
-    let here : num (P a) ≡ 0 = ap num (none a) in
-    let rest = none_pass P (a + 1) n none in
-    omega (arith, x, here, rest)
 
 abbrev pub fresh_table : ℕ → ℕ → ℕ → Table
 fresh_table first last count = record { first = first; last = last; entries = replicate count None; used = replicate count false }
@@ -64,7 +53,7 @@ fresh shape seg image = record {
   shape = shape;
   vseg = seg;
   table = fresh_table (shape.vblocks * shape.pages) (shape.blocks * shape.pages - shape.pages) (shape.blocks * shape.pages);
-  head = shape.vblocks * shape.pages;
+  untried = replicate shape.pblocks shape.pages;
   room = shape.blocks * shape.pages - shape.pages - shape.vblocks * shape.pages;
   free = 1 + (shape.blocks * shape.pages - shape.pages - shape.vblocks * shape.pages) / shape.pages;
   count = 0;
@@ -81,7 +70,7 @@ module _ {tells : Type 0} {geometry : Geometry} (shape : Shape) (seg : Segment) 
   no_stamp v = ap stamp_in_place (no_place v)
 
   none_used : live_among shape (fresh shape seg image).table ≡ 0
-  none_used = none_pass (λ n. is_some (page_live (fresh shape seg image).table n)) (first_physical shape) (shape.pblocks * shape.pages) (λ k. ap is_some (none_live (shape.vblocks * shape.pages) (shape.blocks * shape.pages - shape.pages) (shape.blocks * shape.pages) k))
+  none_used = none_pass (λ n. is_some (page_live (fresh shape seg image).table n)) (first_physical shape) (shape.pblocks * shape.pages) (λ k from. ap is_some (none_live (shape.vblocks * shape.pages) (shape.blocks * shape.pages - shape.pages) (shape.blocks * shape.pages) k))
 
   pub fresh_room : shape.blocks * shape.pages - shape.pages - shape.vblocks * shape.pages + shape.pages ≡ shape.pblocks * shape.pages
   fresh_room =
@@ -89,6 +78,18 @@ module _ {tells : Type 0} {geometry : Geometry} (shape : Shape) (seg : Segment) 
       let halves : (shape.vblocks + shape.pblocks) * shape.pages ≡ shape.vblocks * shape.pages + shape.pblocks * shape.pages = omega arith in
       let fill = bounds.data_pages in
       omega (arith, whole, halves, fill)
+
+  -- no page was tried
+  sum_fresh : sum (replicate shape.pblocks shape.pages) ≡ shape.pblocks * shape.pages
+  sum_fresh = sum_by-replicate (λ x. x) shape.pblocks shape.pages
+
+  few : (b : ℕ) → shape.vblocks ≤ b → b < shape.blocks → used_in shape.pages (fresh shape seg image).table b + untried_of shape (replicate shape.pblocks shape.pages) b ≤ shape.pages
+  few b from below =
+      let none = none_pass (λ n. is_in shape.pages b (live_at (fresh shape seg image).table n)) (fresh shape seg image).table.first ((fresh shape seg image).table.last - (fresh shape seg image).table.first)
+      (λ k low. ap (λ o. is_in shape.pages b o) (empty (entry_at (fresh shape seg image).table k) (get_or (replicate (shape.blocks * shape.pages) false) k false) (no_entry (shape.vblocks * shape.pages) (shape.blocks * shape.pages - shape.pages) (shape.blocks * shape.pages) k))) in
+      let segments = bounds.segments in
+      let all = get_or-replicate shape.pblocks (b - shape.vblocks) shape.pages 0 (omega (arith, from, below, segments)) in
+      omega (arith, none, all)
 
   pub fresh_mapped : IsMapped tells geometry (fresh shape seg image)
   fresh_mapped =
@@ -111,19 +112,18 @@ module _ {tells : Type 0} {geometry : Geometry} (shape : Shape) (seg : Segment) 
           first = refl;
           last = let fill = fits shape bounds in omega (arith, fill);
         };
+        counts = record { count = length-replicate shape.pblocks shape.pages; few = few };
         entries = λ n e is. absurd (none-some e (sym (no_entry (shape.vblocks * shape.pages) (shape.blocks * shape.pages - shape.pages) (shape.blocks * shape.pages) n) ∙ is));
         differ = λ n m d e is other same. absurd (none-some d (sym (no_entry (shape.vblocks * shape.pages) (shape.blocks * shape.pages - shape.pages) (shape.blocks * shape.pages) n) ∙ is));
-        from = omega arith;
-        room = fits shape bounds;
+        room = let all = sum_fresh in let whole = fresh_room in omega (arith, all, whole);
         free = refl;
         count = sym count;
-        few = omega arith;
         some = omega arith;
         most = omega arith;
         addresses = λ v t is. absurd (none-some t (sym (no_stamp v) ∙ is));
         medium = λ told. record {
           virtual_is = record { holds = λ v place is. absurd (none-some place (sym (no_place v) ∙ is)); erased_is = λ p taken. blank told p };
           holds = λ n e is. absurd (none-some e (sym (no_entry (shape.vblocks * shape.pages) (shape.blocks * shape.pages - shape.pages) (shape.blocks * shape.pages) n) ∙ is));
-          blank = λ p from. blank told p;
+          blank = λ p from un. blank told p;
         };
       }

@@ -1,6 +1,7 @@
 -- An address got a value, or its write failed.
 use Rattle.std.proofs.Common.{◌≡◌, ◌⊎◌, inl, inr, ℕ, ◌+◌, ◌*◌, ◌<◌, ◌≤◌, ◌^◌, ◌==◌, if◌then◌else◌, Bool, true, false, cond, List, Option, Some, None, refl, sym, ◌∙◌, ap, subst, arith, ne_eqb}
 use Rattle.std.specs.Prelude.{◌↔◌}
+use Rattle.std.proofs.Math.Nat.{mul-le-mul_right}
 use Rattle.std.proofs.lemmas.Bool.{cond-false, false≢true}
 use Rattle.std.proofs.lemmas.Option.{same_Some}
 use Rattle.nl_field.specs.CrashStates.{Earlier, Rose, top}
@@ -96,10 +97,10 @@ module _ {tells : Type 0} {geometry : Geometry} (s : Mapped) (f : IsMapped tells
     same_pages = f.pages ∙ sym f.virtual.pages;
     within =
         let bound = f.virtual.bound in
-        let from = f.from in
-        let room = f.room in
         let all : geometry.blocks * geometry.pages ≡ s.shape.blocks * s.shape.pages = λ i. f.blocks i * f.pages i in
-        omega (arith, bound, from, room, all);
+        let segments = f.bounds.segments in
+        let le = mul-le-mul_right {m = s.shape.vblocks} {n = s.shape.blocks} s.shape.pages (omega (arith, segments)) in
+        omega (arith, bound, le, all);
   }
 
   module _ (seg : Segment) (next : ℕ) (image : Image) (others : tells → (p : ℕ) → s.vseg.bound ≤ p → page_at image p ≡ page_at s.image p) where
@@ -134,15 +135,14 @@ module _ {tells : Type 0} {geometry : Geometry} (s : Mapped) (f : IsMapped tells
             within = inside;
           };
           numbers = f.numbers;
+          counts = f.counts;
           entries = λ q e at.
               let w = f.entries q e at in
-              record { from = w.from; below = w.below; page_from = w.page_from; page_below = w.page_below; some = w.some; stamp = let lt = w.stamp in omega (arith, lt, up) };
+              record { from = w.from; below = w.below; page_from = w.page_from; page_below = w.page_below; tried = w.tried; some = w.some; stamp = let lt = w.stamp in omega (arith, lt, up) };
           differ = f.differ;
-          from = f.from;
           room = f.room;
           free = f.free;
           count = f.count;
-          few = f.few;
           some = omega (arith, some, up);
           most = omega (arith, one, least);
           addresses = stamps;
@@ -151,8 +151,7 @@ module _ {tells : Type 0} {geometry : Geometry} (s : Mapped) (f : IsMapped tells
             holds = λ q e at.
                 let kept = entry_page told q e at in
                 ap shown_by kept ∙ ((f.medium told).holds q e at ∙ ap (λ page. Some (e.tag, e.stamp, main_of page)) (sym kept));
-            blank = λ p from.
-                others told p (let first = f.from in let bound = f.virtual.bound in omega (arith, from, first, bound)) ∙ (f.medium told).blank p from;
+            blank = λ p from un. others told p (let bound = f.virtual.bound in omega (arith, from, bound)) ∙ (f.medium told).blank p from un;
           };
         }
 

@@ -5,7 +5,6 @@ use Rattle.std.proofs.Math.Nat.{div-mul-le_self, lt-div-mul-add}
 use Rattle.std.proofs.lemmas.List.{get_or_past}
 use Rattle.std.proofs.lemmas.Option.{none-some, same_Some}
 use Rattle.nl_field.specs.Live.{LiveEntry}
-use Rattle.nl_field.specs.Medium.{first_physical}
 use Rattle.nl_field.specs.Page.{Image, page_at}
 use Rattle.nl_iface.specs.Device.{IsDeviceState, entry_with, state_of}
 use Rattle.nl_iface.specs.Left.{HoldsLive, HoldsStamp, LeavesPages}
@@ -127,7 +126,7 @@ is_space {tells} {geometry} {s} f =
 -- where the page of a live number is
 pub live_is : {tells : Type 0} {geometry : Geometry} {s : Mapped} → IsMapped tells geometry s → (n : ℕ) (page : LivePage)
     → page_live s.table n ≡ Some page
-    → (e : Entry) × (page_of e ≡ page) × (entry_at s.table n ≡ Some e) × IsEntry (first_physical s.shape) s.table.last s.head s.next n e
+    → (e : Entry) × (page_of e ≡ page) × (entry_at s.table n ≡ Some e) × IsEntry s.shape s.untried s.table.last s.next n e
 live_is {tells} {geometry} {s} f n page live = let w = given_as s n page live in (w.0, w.2, w.1, f.entries n w.0 w.1)
 
 pub is_names : {tells : Type 0} {geometry : Geometry} {s : Mapped} → IsMapped tells geometry s → IsNames s.shape s.next (names_of s)

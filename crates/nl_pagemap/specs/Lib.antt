@@ -1,3 +1,4 @@
+pub mod Cleaning
 pub mod Laws
 pub mod Made
 pub mod Mapped

@@ -1,5 +1,5 @@
 -- What is seen of a page-mapped device.
-use Rattle.std.specs.Prelude.{ℕ, ◌-◌, ◌*◌, true, List, [], count_by, Option, Some, None, is_some, option_map}
+use Rattle.std.specs.Prelude.{ℕ, ◌+◌, ◌-◌, ◌*◌, true, List, [], count_by, sum, Option, Some, None, is_some, option_map}
 use Rattle.std.specs.List.{range_with_len}
 use Rattle.nl_field.specs.Medium.{first_physical}
 use Rattle.nl_field.specs.Page.{Image, page_at}
@@ -9,18 +9,20 @@ use Rattle.nl_iface.specs.Space.{Space}
 use Rattle.nl_iface.specs.Stored.{NamedPage, Stored}
 use Rattle.nl_pagemap.specs.declared.pagemap.Pagemap.{Pagemap}
 use Rattle.nl_pagemap_names.specs.Table.{Table, entry_at, live_at}
+use Rattle.nl_pagemap_names.specs.Untried.{count_at, used_in}
 use Rattle.nl_pagemap_names.specs.declared.entry.Entry.{Entry}
 use Rattle.nl_pseg_pages.specs.Pages.{Shown, main_of, shown_by}
 use Rattle.nl_vseg.specs.Places.{map_of}
 use Rattle.nl_vseg.specs.Segment.{Segment}
 
--- The numbers of the volume, the virtual segment, the table of numbers, the page that is programmed next, how many can be, the blocks that
--- they fill with that which is kept, how many numbers are in use, the next stamp, and what the medium holds.
+-- The numbers of the volume, the virtual segment, the table of numbers; by block of the physical segment, how many of its pages were not
+-- tried since it was erased last; how many pages can be written, and the blocks that they fill with that which is kept; how many numbers
+-- are in use, the next stamp, and what the medium holds.
 pub record Mapped : Type 0 where
   pub shape : Shape
   pub vseg : Segment
   pub table : Table
-  pub head : ℕ
+  pub untried : List ℕ
   pub room : ℕ
   pub free : ℕ
   pub count : ℕ
@@ -32,7 +34,7 @@ seen contents d = record {
   shape = d.shape;
   vseg = d.vseg;
   table = d.table;
-  head = d.head;
+  untried = d.untried;
   room = d.room;
   free = d.free;
   count = d.count;
@@ -69,6 +71,21 @@ bytes_at s n = bytes_by s.image (entry_at s.table n)
 
 abbrev pub live_among : Shape → Table → ℕ
 live_among shape t = count_by (λ n. is_some (page_live t n)) (range_with_len (first_physical shape) (shape.pblocks * shape.pages))
+
+-- How many pages of a block of the physical segment were not tried, by its number on the medium. They are its last ones.
+abbrev pub untried_of : Shape → List ℕ → ℕ → ℕ
+untried_of shape untried block = count_at untried (block - shape.vblocks)
+
+-- the first of them
+abbrev pub next_page : Shape → List ℕ → ℕ → ℕ
+next_page shape untried block = block * shape.pages + shape.pages - untried_of shape untried block
+
+abbrev pub untried_in : Mapped → ℕ
+untried_in s = sum s.untried
+
+-- how many pages of a block are in use
+abbrev pub in_use : Mapped → ℕ → ℕ
+in_use s block = used_in s.shape.pages s.table block
 
 -- the block whose numbers stay unused
 abbrev pub last_block : Shape → ℕ

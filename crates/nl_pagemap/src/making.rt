@@ -1,5 +1,5 @@
 // The making of a device over a medium that holds nothing.
-ghost use Rattle.std.specs.Prelude.{◌≡◌, ◌+◌, ◌-◌, ◌*◌, ◌<◌, ℕ, false, length, replicate, true, IfErr, IfOk, IsTrue, None};
+ghost use Rattle.std.specs.Prelude.{◌≡◌, ◌+◌, ◌-◌, ◌*◌, ◌^◌, ◌<◌, ℕ, false, length, replicate, true, IfErr, IfOk, IsTrue, None};
 ghost use Rattle.nl_field.specs.CrashStates.{saturated};
 ghost use Rattle.nl_field.specs.Numbers.{ShapeBounds, is_legal, shape_for};
 ghost use Rattle.nl_iface.specs.Device.{IsVolumeShape};
@@ -11,7 +11,7 @@ use crate::pagemap::Pagemap;
 use nl_field::{Memory, PageBuf, Shape};
 use nl_iface::Counts;
 use nl_nand::Nand;
-use nl_pagemap_names::Numbers;
+use nl_pagemap_names::{Numbers, Untried};
 use nl_vseg::VSeg;
 use std::alloc::Global;
 
@@ -20,10 +20,11 @@ use std::alloc::Global;
 struct Parts {
     vseg: VSeg,
     table: Numbers,
+    untried: Untried,
     buf: PageBuf,
 }
 
-/// A segment without an address, and a table without a number in use.
+/// A segment without an address, a table without a number in use, and blocks of which no page was tried.
 fn fresh_parts(
     alloc: Global,
     shape: &Shape,
@@ -32,6 +33,7 @@ fn fresh_parts(
     count: u32,
 ) -> Result<Parts, Memory>
     requires legal { IsTrue (is_legal shape.now.blocks shape.now.pages) }
+    requires few { shape.now.pblocks * shape.now.pages < 2 ^ 32 }
     requires numbers { shape.now ≡ shape_for shape.now.blocks shape.now.pages }
     ensures places { IfOk result (λ p. p.vseg.places ≡ replicate shape.now.vaddrs None) }
     ensures pages { IfOk result (λ p. p.vseg.pages ≡ shape.now.pages) }
@@ -40,11 +42,18 @@ fn fresh_parts(
     ensures spare { IfOk result (λ p. SegmentHasUnmapped p.vseg) }
     ensures table { IfOk result
         (λ p. p.table ≡ record { first = first; last = last; entries = replicate count None; used = replicate count false }) }
+    ensures untried { IfOk result (λ p. p.untried ≡ replicate shape.now.pblocks shape.now.pages) }
 {
     let vseg = VSeg::new(alloc, shape)?;
     let table = Numbers::new(alloc, first, last, count)?;
+    let untried = Untried::new(alloc, shape.pblocks, shape.pages)?;
     let buf = PageBuf::new(alloc)?;
-    Ok(Parts { vseg, table, buf })
+    Ok(Parts {
+        vseg,
+        table,
+        untried,
+        buf,
+    })
 }
 
 impl<M: Nand> Pagemap<M> {
@@ -65,15 +74,22 @@ impl<M: Nand> Pagemap<M> {
         ensures back { IfErr result (λ m. m ≡ media) }
     {
         let all = shape.blocks * shape.pages;
-        let head = shape.vblocks * shape.pages;
-        let room = all - shape.pages - head;
-        match fresh_parts(alloc, &shape, head, all - shape.pages, all) {
-            Ok(Parts { vseg, table, buf }) => Ok(Pagemap {
+        let first = shape.vblocks * shape.pages;
+        let room = all - shape.pages - first;
+        match fresh_parts(alloc, &shape, first, all - shape.pages, all) {
+            Ok(
+                Parts {
+                    vseg,
+                    table,
+                    untried,
+                    buf,
+                },
+            ) => Ok(Pagemap {
                 media,
                 shape,
                 vseg,
                 table,
-                head,
+                untried,
                 room,
                 free: 1 + room / shape.pages,
                 count: 0,

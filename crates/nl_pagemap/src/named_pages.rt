@@ -20,8 +20,9 @@ impl<M: Nand> NamedPages for Pagemap<M> {
             return Named::NoPage;
         }
         let at = self.new_pointer();
-        let page = self.head;
-        match self.program(tag, from) {
+        let block = self.next_block();
+        let page = self.next_page(block);
+        match self.program(block, tag, from) {
             WriteAnswer::Failed => Named::Fault,
             WriteAnswer::Done => {
                 let stamp = at.stamp;
@@ -40,8 +41,9 @@ impl<M: Nand> NamedPages for Pagemap<M> {
             return Named::NoPage;
         }
         let at = self.new_pointer();
-        let page = self.head;
-        match self.program(tag, from) {
+        let block = self.next_block();
+        let page = self.next_page(block);
+        match self.program(block, tag, from) {
             WriteAnswer::Failed => Named::Fault,
             WriteAnswer::Done => {
                 let stamp = at.stamp;

@@ -4,20 +4,20 @@ ghost use Rattle.nl_field.specs.CrashStates.{saturated};
 
 use nl_field::{PageBuf, Shape};
 use nl_nand::Nand;
-use nl_pagemap_names::Numbers;
+use nl_pagemap_names::{Numbers, Untried};
 use nl_vseg::VSeg;
 
-/// A flash medium with its two segments: pages by virtual address in the first blocks, and pages under numbers in the last. These are
-/// programmed one after the other, each once. What the table says is lost with the memory: nothing is promised of what a stop leaves.
+/// A flash medium with its two segments: pages by virtual address in the first blocks, and pages under numbers in the last. Of each block
+/// these are programmed one after the other. What the table says is lost with the memory: nothing is promised of what a stop leaves.
 #[derive(Drop)]
 pub struct Pagemap<M: Nand> {
     pub(crate) media: M,
     pub(crate) shape: Shape,
     pub(crate) vseg: VSeg,
     pub(crate) table: Numbers,
-    /// The page of the medium that is programmed next under a number. It and all later ones are erased.
-    pub(crate) head: u32,
-    /// How many pages can be programmed under numbers: those from that one on, but one block's.
+    /// By block of the physical segment, how many of its pages were not tried since it was erased last.
+    pub(crate) untried: Untried,
+    /// How many pages can be programmed under numbers: those that were not tried, but one block's.
     pub(crate) room: u32,
     /// The blocks that they fill, and that one.
     pub(crate) free: u32,

@@ -41,3 +41,11 @@ pub record IsFirstFree (t : Table) (n : ℕ) : Type 0 where
   pub below : n < t.last
   pub free : live_at t n ≡ None
   pub least : (m : ℕ) → t.first ≤ m → m < n → live_at t m ≡ None → ⊥
+
+-- numbers that are not in use have no entry, and the others have theirs
+pub record ForgetsReleased (s t : Table) : Type 0 where
+  pub first : t.first ≡ s.first
+  pub last : t.last ≡ s.last
+  pub used : t.used ≡ s.used
+  pub count : length t.entries ≡ length s.entries
+  pub entries : (n : ℕ) → entry_at t n ≡ live_at s n

@@ -1,6 +1,7 @@
 // The table of numbers: what each was last given, and which are in use.
-ghost use Rattle.std.specs.Prelude.{◌≡◌, ℕ, ◌<◌, ◌≤◌, length, replicate, slice_index_or, false, true, IfNone, IfOk, IfSome, None};
-ghost use Rattle.nl_pagemap_names.specs.Table.{IsFirstFree, entry_at, given, live_at, released};
+ghost use Rattle.std.specs.Prelude.{◌≡◌, ℕ, ◌+◌, ◌^◌, ◌<◌, ◌≤◌, cond, length, replicate, slice_index_or, slice_set, false, true, IfNone, IfOk, IfSome, None};
+ghost use Rattle.nl_pagemap_names.specs.Table.{ForgetsReleased, IsFirstFree, entry_at, given, live_at, released};
+ghost use Rattle.nl_pagemap_names.specs.Untried.{count_at, is_in, used_in};
 
 use crate::entry::Entry;
 use nl_field::Memory;
@@ -88,13 +89,39 @@ impl Numbers {
         self.used[number as usize] = false;
     }
 
-    fn first(&self) -> u32
+    /// The numbers that are not in use keep no entry.
+    pub fn forget_released(&mut self)
+        ensures { ForgetsReleased self.old self.new }
+    {
+        for at in 0..self.entries.len() {
+            forget_one(&mut self.entries, &self.used, at);
+        }
+    }
+
+    /// Counts, by block, the numbers in use whose page is in it. The blocks have this number of pages, and the first of them this number
+    /// on the medium.
+    pub(crate) fn count_used(&self, pages: u32, first: u32, counts: &mut Vec<u32>)
+        requires { 0 < pages }
+        ensures length { length counts.new.items ≡ length counts.old.items }
+        ensures counts { (i : ℕ) → i < length counts.old.items → count_at counts.new.items i ≡ used_in pages self.now (first + i) }
+    {
+        clear(counts);
+        let from = self.first();
+        let to = self.last();
+        for number in from..to {
+            count_one(counts, self.get(number), pages, first);
+        }
+    }
+
+    /// The first number that is given out.
+    pub fn first(&self) -> u32
         ensures { result ≡ self.now.first }
     {
         self.first
     }
 
-    fn last(&self) -> u32
+    /// The one behind the last that is given out.
+    pub fn last(&self) -> u32
         ensures { result ≡ self.now.last }
     {
         self.last
@@ -141,4 +168,46 @@ fn none_used(alloc: Global, count: u32) -> Result<Vec<bool>, Memory>
     ensures { IfOk result (λ v. v.items ≡ replicate count false) }
 {
     Ok(vec![in alloc; false; count as usize]?)
+}
+
+/// The number at this place keeps its entry only where it is in use.
+fn forget_one(entries: &mut Vec<Option<Entry>>, used: &Vec<bool>, at: usize)
+    requires within { at < length entries.old.items }
+    requires same { length used.now.items ≡ length entries.old.items }
+    ensures { entries.new.items
+        ≡ slice_set entries.old.items at (cond (slice_index_or used.now.items at false) (slice_index_or entries.old.items at None) None) }
+{
+    if !used[at] {
+        entries[at] = None;
+    }
+}
+
+fn clear(counts: &mut Vec<u32>)
+    ensures length { length counts.new.items ≡ length counts.old.items }
+    ensures clear { (i : ℕ) → count_at counts.new.items i ≡ 0 }
+{
+    for at in 0..counts.len() {
+        counts[at] = 0;
+    }
+}
+
+/// Counts the page of an entry in its block.
+fn count_one(counts: &mut Vec<u32>, entry: Option<Entry>, pages: u32, first: u32)
+    requires some { 0 < pages }
+    requires fits { (i : ℕ) → count_at counts.old.items i + 1 < 2 ^ 32 }
+    ensures length { length counts.new.items ≡ length counts.old.items }
+    ensures counts { (i : ℕ) → i < length counts.old.items
+        → count_at counts.new.items i ≡ count_at counts.old.items i + cond (is_in pages (first + i) entry) 1 0 }
+{
+    let Some(entry) = entry else {
+        return;
+    };
+    let block = entry.page / pages;
+    if block < first {
+        return;
+    }
+    let at = (block - first) as usize;
+    if at < counts.len() {
+        counts[at] += 1;
+    }
 }

@@ -8,5 +8,3 @@ mod filling;
 mod rows;
 #[cfg(test)]
 mod running;
-#[cfg(test)]
-mod serving;

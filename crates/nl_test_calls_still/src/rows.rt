@@ -1,14 +1,17 @@
 // Worked rows of one worker on a new volume of 32 blocks of 32 pages.
-ghost use Rattle.std.specs.Prelude.{IfOk, IfSome};
-ghost use Rattle.nl_test_calls_still.specs.Serving.{CoreServes};
+ghost use Rattle.std.specs.Prelude.{◌≡◌, ◌≤◌, ◌^◌, IfOk, IfSome};
+ghost use Rattle.nl_pagemap_volume.specs.Serving.{CoreServes};
+ghost use Rattle.nl_tree.specs.Calls.{IsLine};
 
-use crate::serving::{begin, serve};
+use crate::running::is_read_only;
 use nl_core::Core;
 use nl_field::{Memory, PageBuf};
 use nl_iface::Counts;
+use nl_pagemap_volume::serve_call;
 use nl_script::script_of;
+use nl_test_core_still::open_least;
 use nl_testkit_still::Still;
-use nl_tree::{FaultReply, Refusal, Reply, ReplyBuf};
+use nl_tree::{FaultReply, Line, Refusal, Reply, ReplyBuf};
 use std::alloc::Global;
 use std::test::Fail;
 
@@ -143,9 +146,15 @@ fn answered(
     if lines.len() != 1 {
         return Ok(None);
     }
-    match serve(core, files, lines.get(0), out, page) {
-        Some(answer) if answer.reply == reply && out.bytes() == bytes => Ok(Some(answer.files)),
-        _ => Ok(None),
+    if is_read_only(core) {
+        return Ok(None);
+    }
+    let Line { worker, call, .. } = lines.get(0);
+    let answer = serve_call(core, *worker, call, files, out, page);
+    if answer.reply == reply && out.bytes() == bytes {
+        Ok(Some(answer.files))
+    } else {
+        Ok(None)
     }
 }
 
@@ -168,7 +177,7 @@ fn first_wrong(alloc: Global, core: &mut Core<Still>, rows: &[Row]) -> Result<Op
 }
 
 fn wrong_of(alloc: Global, rows: &[Row]) -> Result<Option<usize>, Memory> {
-    let mut core = begin(alloc)?;
+    let mut core = open_least(alloc)?;
     first_wrong(alloc, &mut core, rows)
 }
 

@@ -1,3 +1,1 @@
-pub mod Begun
-pub mod Idle
-pub mod Root
+pub mod Firm

@@ -11,7 +11,7 @@ use nl_field::{
 };
 use nl_iface::{Copying, Counts, Erasing, MovingPages, NamedPages, VirtualPages};
 use nl_nand::{FormAnswer, MemNand, Nand};
-use nl_pagemap::Pagemap;
+use nl_pagemap::{Cleaning, Pagemap};
 use std::alloc::Global;
 use std::process::Abort;
 
@@ -33,6 +33,8 @@ enum Step {
     Copy,
     Erase,
     Level,
+    Clean,
+    PagesLeft,
     Pairs,
     FreeBlocks,
     Entries,
@@ -237,6 +239,17 @@ fn erase(device: &mut Pagemap<MemNand>) -> Seen
     }
 }
 
+fn clean(device: &mut Pagemap<MemNand>) -> Seen
+    requires { HasAddressed device.old }
+    ensures { HasAddressed device.new }
+{
+    match device.clean() {
+        Cleaning::Done => Seen::Did,
+        Cleaning::Nothing => Seen::Nothing,
+        Cleaning::Fault => Seen::Fault,
+    }
+}
+
 fn level(device: &mut Pagemap<MemNand>) -> bool
     requires { HasAddressed device.old }
     ensures { IsTrue result → HasAddressed device.new }
@@ -253,6 +266,7 @@ fn look(device: &Pagemap<MemNand>, step: Step) -> Seen
         Step::Resolve(name) => Seen::Number(u64::from(device.resolve(name))),
         Step::Pairs => Seen::Number(u64::from(device.pairs())),
         Step::FreeBlocks => Seen::Number(u64::from(device.free_blocks())),
+        Step::PagesLeft => Seen::Number(u64::from(device.pages_left())),
         Step::Entries => Seen::Number(u64::from(device.entries())),
         Step::NextStamp => Seen::Number(device.next_stamp()),
         Step::Counts => Seen::Counts(device.clock(), device.read_faults(), device.write_faults()),
@@ -278,6 +292,7 @@ fn answers_so(device: &mut Pagemap<MemNand>, buf: &mut PageBuf, step: Step, want
         Step::Get(vaddr) => get(device, buf, vaddr) == want,
         Step::Copy => copy(device) == want,
         Step::Erase => erase(device) == want,
+        Step::Clean => clean(device) == want,
         Step::Level => level(device) && want == Seen::No,
         other => look(device, other) == want,
     }
@@ -365,6 +380,82 @@ const FAILURES: [(Step, Seen); 7] = [
     (Step::Counts, Seen::Counts(2, 0, 1)),
 ];
 
+const CLEANINGS: [(Step, Seen); 38] = [
+    (Step::Clean, Seen::Nothing),
+    // A block of which each page is in use is not cleaned.
+    (Step::Writes(32), Seen::Number(32)),
+    (Step::Clean, Seen::Nothing),
+    (Step::PagesLeft, Seen::Number(704)),
+    // Two of its pages are dead.
+    (Step::Free(256, 1), Seen::Yes),
+    (Step::Replace(257, 2, 200), Seen::At(256, 33)),
+    (Step::PagesLeft, Seen::Number(703)),
+    (Step::Clean, Seen::Did),
+    (Step::PagesLeft, Seen::Number(705)),
+    (Step::Read(256, 33), Seen::Byte(200)),
+    (Step::Read(257, 2), Seen::NotLive),
+    (Step::Read(258, 3), Seen::Byte(2)),
+    (Step::ReadOther(258, 3), Seen::Lost),
+    (Step::Read(287, 32), Seen::Byte(31)),
+    (Step::Entries, Seen::Number(31)),
+    (Step::NextStamp, Seen::Number(34)),
+    // Programs: 33 of writes, and 30 of copies. One erase.
+    (Step::Counts, Seen::Counts(64, 0, 0)),
+    (Step::Clean, Seen::Nothing),
+    // The copies are in one block, which a page more fills, and of which one page is dead then.
+    (Step::Write(201), Seen::At(257, 34)),
+    (Step::Clean, Seen::Nothing),
+    (Step::Free(256, 33), Seen::Yes),
+    (Step::Clean, Seen::Did),
+    (Step::PagesLeft, Seen::Number(705)),
+    (Step::Clean, Seen::Nothing),
+    (Step::Read(257, 34), Seen::Byte(201)),
+    (Step::Read(258, 3), Seen::Byte(2)),
+    // Where there is no room any more, pages are gained as they are freed.
+    (Step::Writes(1000), Seen::Number(705)),
+    (Step::PagesLeft, Seen::Number(0)),
+    (Step::Clean, Seen::Nothing),
+    (Step::Free(258, 3), Seen::Yes),
+    (Step::Write(202), Seen::NoPage),
+    (Step::Clean, Seen::Did),
+    (Step::PagesLeft, Seen::Number(1)),
+    (Step::Write(202), Seen::At(258, 740)),
+    (Step::Write(203), Seen::NoPage),
+    (Step::Read(259, 4), Seen::Byte(3)),
+    (Step::Read(258, 740), Seen::Byte(202)),
+    (Step::Read(258, 3), Seen::NotLive),
+];
+
+/// One page of a full block is dead, and a program or an erase of its cleaning fails.
+const COPY_FAILS: [(Step, Seen); 13] = [
+    (Step::Writes(32), Seen::Number(32)),
+    (Step::Free(256, 1), Seen::Yes),
+    (Step::Clean, Seen::Fault),
+    // Seven pages were copied, and one page is lost.
+    (Step::PagesLeft, Seen::Number(696)),
+    (Step::Read(257, 2), Seen::Byte(1)),
+    (Step::Read(264, 9), Seen::Byte(8)),
+    (Step::Read(287, 32), Seen::Byte(31)),
+    (Step::Clean, Seen::Did),
+    (Step::PagesLeft, Seen::Number(704)),
+    (Step::Read(257, 2), Seen::Byte(1)),
+    (Step::Read(264, 9), Seen::Byte(8)),
+    (Step::Entries, Seen::Number(31)),
+    (Step::Counts, Seen::Counts(64, 0, 1)),
+];
+
+const ERASE_FAILS: [(Step, Seen); 9] = [
+    (Step::Writes(32), Seen::Number(32)),
+    (Step::Free(256, 1), Seen::Yes),
+    (Step::Clean, Seen::Fault),
+    (Step::PagesLeft, Seen::Number(673)),
+    (Step::Read(257, 2), Seen::Byte(1)),
+    (Step::Clean, Seen::Did),
+    (Step::PagesLeft, Seen::Number(705)),
+    (Step::Read(257, 2), Seen::Byte(1)),
+    (Step::Counts, Seen::Counts(64, 0, 1)),
+];
+
 /// Asserts that no row differs, and that there was memory.
 fn assert_none_differs(rt: &impl Abort, found: Result<Option<usize>, Memory>) {
     assert_eq!(rt; found, Ok(None));
@@ -380,4 +471,16 @@ fn numbers_have_pages(rt: HostRuntime) {
 #[test]
 fn a_program_fails(rt: HostRuntime) {
     assert_none_differs(&rt, found(rt.alloc(), 2, &FAILURES));
+}
+
+#[test]
+fn blocks_are_cleaned(rt: HostRuntime) {
+    assert_none_differs(&rt, found(rt.alloc(), 0, &CLEANINGS));
+}
+
+// The program of the eighth copy fails, or the erase.
+#[test]
+fn a_cleaning_fails(rt: HostRuntime) {
+    assert_none_differs(&rt, found(rt.alloc(), 40, &COPY_FAILS));
+    assert_none_differs(&rt, found(rt.alloc(), 64, &ERASE_FAILS));
 }

@@ -2,7 +2,7 @@ use Rattle.std.proofs.Common.{◌≡◌, subst}
 use Rattle.std.specs.Prelude.{IfSome, Option}
 use Rattle.nl_field.specs.Numbers.{shape_for}
 use Rattle.nl_field.specs.declared.shape.Shape.{Shape}
-use Rattle.nl_test_core_still.proofs.Idle.{least}
+use Rattle.nl_test_core_still.proofs.Firm.{least}
 use Rattle.nl_test_core_still.proofs.opening.open_least.Goals as goal
 
 pub open-requires-clause-volume : goal.open-requires-clause-volume

@@ -30,7 +30,7 @@ release-requires g c =
     let e = c.program.ensures in
     let at = c.new_pointer-at.result in
     let was = led_entry (live_at d.table c.args.old.name) c.args.old.stamp (sym c.leads.ensures ∙ c.if-not-leads.false) in
-    let entry : Entry = record { page = d.head; tag = c.args.tag; stamp = at.stamp } in
+    let entry : Entry = record { page = c.next_page-page.result; tag = c.args.tag; stamp = at.stamp } in
     subst (λ (x : Table). c.args.old.name < length x.entries) (sym (c.give.ensures ∙ (λ i. given at.name entry (e.spends i).table)))
     (subst (λ k. c.args.old.name < k) (sym (length-set d.table.entries at.name (Some entry)))
     (dropped_within (seen g.M.Nand.contents d) c.requires.formed c.args.old.name was.0 was.1))
@@ -57,7 +57,7 @@ returns-in-Failed-clause-formed g c =
     let image = g.M.Nand.contents c.program.new.self.media in
     subst (λ (x : Geometry). IsMapped g.M.Nand.tells x (seen g.M.Nand.contents c.program.new.self)) (sym e.counted.same_geometry)
     (subst (λ (x : Mapped). IsMapped g.M.Nand.tells (g.M.Nand.geometry d.media) x) (sym e.spends)
-    (wasted_mapped s image c.requires.formed (omega (arith, c.if-self-eq0.false)) c.requires.stamp e.others))
+    (wasted_mapped c.next_block-block.result s image c.requires.formed c.next_block-block.ensures c.requires.stamp e.others))
 
 pub returns-in-Failed-clause-none : goal.returns-in-Failed-clause-none
 returns-in-Failed-clause-none g c unplaced =
@@ -77,9 +77,9 @@ returns-in-Failed-clause-left g c told =
     record {
       stops = record {
         later = later;
-        each = λ m x left. let now = left.0 in inr (omega (arith, later, now), omega (arith, now), inl ((λ no. absurd no), left_without s image c.requires.formed (omega (arith, c.if-self-eq0.false)) c.requires.stamp e.others told _ x (left.1 ∙ ap stored_in e.spends)));
+        each = λ m x left. let now = left.0 in inr (omega (arith, later, now), omega (arith, now), inl ((λ no. absurd no), left_without c.next_block-block.result s image c.requires.formed c.next_block-block.ensures c.requires.stamp e.others told _ x (left.1 ∙ ap stored_in e.spends)));
       };
-      now = inl ((λ no. no), left_without s image c.requires.formed (omega (arith, c.if-self-eq0.false)) c.requires.stamp e.others told _ (stored_in (seen g.M.Nand.contents c.program.new.self)) (ap stored_in e.spends));
+      now = inl ((λ no. no), left_without c.next_block-block.result s image c.requires.formed c.next_block-block.ensures c.requires.stamp e.others told _ (stored_in (seen g.M.Nand.contents c.program.new.self)) (ap stored_in e.spends));
     }
 
 pub returns-in-Failed-clause-kept : goal.returns-in-Failed-clause-kept
@@ -87,16 +87,15 @@ returns-in-Failed-clause-kept g c =
     let s = seen g.M.Nand.contents c.args.self.now in
     let e = c.program.ensures in
     let image = g.M.Nand.contents c.program.new.self.media in
-    let room : 0 < s.room = omega (arith, c.if-self-eq0.false) in
     record {
       virtual = record {
         same_shape = ap (λ (x : Mapped). x.shape) e.spends;
         same_stamps = λ v. ap (λ (x : Mapped). stamp_for x.vseg.places v) e.spends;
-        same_map = λ told v. ap (λ (x : Mapped). map_of x.vseg.places x.image v) e.spends ∙ wasted_map s image c.requires.formed room c.requires.stamp e.others told v;
+        same_map = λ told v. ap (λ (x : Mapped). map_of x.vseg.places x.image v) e.spends ∙ wasted_map c.next_block-block.result s image c.requires.formed c.next_block-block.ensures c.requires.stamp e.others told v;
         no_failed = λ told v x no. no;
         spare = λ k. subst (λ (x : Mapped). SegmentHasUnmapped x.vseg) (sym e.spends) k;
       };
-      bytes = λ told q page live. ap (λ (x : Mapped). bytes_at x q) e.spends ∙ wasted_bytes s image c.requires.formed room c.requires.stamp e.others told q;
+      bytes = λ told q page live. ap (λ (x : Mapped). bytes_at x q) e.spends ∙ wasted_bytes c.next_block-block.result s image c.requires.formed c.next_block-block.ensures c.requires.stamp e.others told q;
       clean = λ k. k;
       read_faults = e.counted.same_read_faults;
     }
@@ -135,14 +134,14 @@ returns-in-Done-clause-formed g c =
     let at = c.new_pointer-at.result in
     let n = c.new_pointer-at.ensures in
     let room : 0 < s.room = omega (arith, c.if-self-eq0.false) in
-    let k : IsProgrammed g.M.Nand.tells tag main s image = record { others = e.others; holds = λ t. e.programmed t c.in-Done.is; shows = e.shows } in
+    let k : IsProgrammed g.M.Nand.tells c.next_block-block.result tag d.next main s image = record { others = e.others; holds = λ t. e.programmed t c.in-Done.is; shows = e.shows } in
     let was = led_entry (live_at d.table gone) c.args.old.stamp (sym c.leads.ensures ∙ c.if-not-leads.false) in
-    let table : c.release.new.self ≡ released gone (given at.name (next_entry tag s) s.table) = c.release.ensures ∙ (ap (released gone) c.give.ensures ∙ (λ i. released gone (given at.name (record { page = d.head; tag = tag; stamp = n.stamp i }) (e.spends i).table))) in
+    let table : c.release.new.self ≡ released gone (given at.name (next_entry c.next_block-block.result tag d.next s) s.table) = c.release.ensures ∙ (ap (released gone) c.give.ensures ∙ (λ i. released gone (given at.name (record { page = c.next_page-page.ensures i; tag = tag; stamp = n.stamp i }) (e.spends i).table))) in
     let count : c.program.new.self.count ≡ s.count + 1 - 1 = ap (λ (x : Mapped). x.count) e.spends ∙ omega arith in
     let t : Mapped = record (seen g.M.Nand.contents c.program.new.self) { table = c.release.new.self } in
-    let path : t ≡ dropped gone (placed at.name tag image s) = λ i. record (e.spends i) { table = table i; count = count i } in
+    let path : t ≡ dropped gone (placed c.next_block-block.result at.name tag image s) = λ i. record (e.spends i) { table = table i; count = count i } in
     subst (λ (x : Geometry). IsMapped g.M.Nand.tells x t) (sym e.counted.same_geometry)
-    (subst (λ (x : Mapped). IsMapped g.M.Nand.tells (g.M.Nand.geometry d.media) x) (sym path) (over_mapped at tag main s image f room c.requires.stamp n k gone was.0 was.1))
+    (subst (λ (x : Mapped). IsMapped g.M.Nand.tells (g.M.Nand.geometry d.media) x) (sym path) (over_mapped c.next_block-block.result at tag main s image f c.next_block-block.ensures c.requires.stamp n k gone was.0 was.1))
 
 pub returns-in-Done-clause-placed : goal.returns-in-Done-clause-placed
 returns-in-Done-clause-placed g c =
@@ -157,28 +156,28 @@ returns-in-Done-clause-placed g c =
     let at = c.new_pointer-at.result in
     let n = c.new_pointer-at.ensures in
     let room : 0 < s.room = omega (arith, c.if-self-eq0.false) in
-    let k : IsProgrammed g.M.Nand.tells tag main s image = record { others = e.others; holds = λ t. e.programmed t c.in-Done.is; shows = e.shows } in
+    let k : IsProgrammed g.M.Nand.tells c.next_block-block.result tag d.next main s image = record { others = e.others; holds = λ t. e.programmed t c.in-Done.is; shows = e.shows } in
     let was = led_entry (live_at d.table gone) c.args.old.stamp (sym c.leads.ensures ∙ c.if-not-leads.false) in
-    let table : c.release.new.self ≡ released gone (given at.name (next_entry tag s) s.table) = c.release.ensures ∙ (ap (released gone) c.give.ensures ∙ (λ i. released gone (given at.name (record { page = d.head; tag = tag; stamp = n.stamp i }) (e.spends i).table))) in
+    let table : c.release.new.self ≡ released gone (given at.name (next_entry c.next_block-block.result tag d.next s) s.table) = c.release.ensures ∙ (ap (released gone) c.give.ensures ∙ (λ i. released gone (given at.name (record { page = c.next_page-page.ensures i; tag = tag; stamp = n.stamp i }) (e.spends i).table))) in
     let count : c.program.new.self.count ≡ s.count + 1 - 1 = ap (λ (x : Mapped). x.count) e.spends ∙ omega arith in
     let t : Mapped = record (seen g.M.Nand.contents c.program.new.self) { table = c.release.new.self } in
-    let path : t ≡ dropped gone (placed at.name tag image s) = λ i. record (e.spends i) { table = table i; count = count i } in
+    let path : t ≡ dropped gone (placed c.next_block-block.result at.name tag image s) = λ i. record (e.spends i) { table = table i; count = count i } in
     let left = ap (λ (x : Mapped). x.room) path in
     let live = ap (λ (x : Mapped). live_among x.shape x.table) path in
-    let more = count_over at tag main s image f room c.requires.stamp n k gone was.0 was.1 in
+    let more = count_over c.next_block-block.result at tag main s image f c.next_block-block.ensures c.requires.stamp n k gone was.0 was.1 in
     record {
       stamp = n.stamp;
-      is_new = is_new at tag main s image f room c.requires.stamp n k;
+      is_new = is_new c.next_block-block.result at tag main s image f c.next_block-block.ensures c.requires.stamp n k;
       names = record {
-        live = λ q. ap (λ (x : Mapped). page_live x.table q) path ∙ live_over at tag main s image f room c.requires.stamp n k gone was.0 was.1 q;
+        live = λ q. ap (λ (x : Mapped). page_live x.table q) path ∙ live_over c.next_block-block.result at tag main s image f c.next_block-block.ensures c.requires.stamp n k gone was.0 was.1 q;
         pairs = refl;
         pending = refl;
         handled = λ x has. refl;
         posted = refl;
       };
       space = wrote 1 s t (ap (λ (x : Mapped). x.shape) path) (omega (arith, left, room)) (omega (arith, live, more));
-      bytes = λ told. ap (λ (x : Mapped). bytes_at x at.name) path ∙ bytes_here at tag main s image f room c.requires.stamp n k told;
-      block = λ told none q off. inl (ap (λ (x : Mapped). named_at x q) path ∙ named_other at tag main s image f room c.requires.stamp n k told q off);
+      bytes = λ told. ap (λ (x : Mapped). bytes_at x at.name) path ∙ bytes_here c.next_block-block.result at tag main s image f c.next_block-block.ensures c.requires.stamp n k told;
+      block = λ told none q off. inl (ap (λ (x : Mapped). named_at x q) path ∙ named_other c.next_block-block.result at tag main s image f c.next_block-block.ensures c.requires.stamp n k told q off);
     }
 
 pub returns-in-Done-clause-left : goal.returns-in-Done-clause-left
@@ -194,19 +193,19 @@ returns-in-Done-clause-left g c told =
     let at = c.new_pointer-at.result in
     let n = c.new_pointer-at.ensures in
     let room : 0 < s.room = omega (arith, c.if-self-eq0.false) in
-    let k : IsProgrammed g.M.Nand.tells tag main s image = record { others = e.others; holds = λ t. e.programmed t c.in-Done.is; shows = e.shows } in
+    let k : IsProgrammed g.M.Nand.tells c.next_block-block.result tag d.next main s image = record { others = e.others; holds = λ t. e.programmed t c.in-Done.is; shows = e.shows } in
     let was = led_entry (live_at d.table gone) c.args.old.stamp (sym c.leads.ensures ∙ c.if-not-leads.false) in
-    let table : c.release.new.self ≡ released gone (given at.name (next_entry tag s) s.table) = c.release.ensures ∙ (ap (released gone) c.give.ensures ∙ (λ i. released gone (given at.name (record { page = d.head; tag = tag; stamp = n.stamp i }) (e.spends i).table))) in
+    let table : c.release.new.self ≡ released gone (given at.name (next_entry c.next_block-block.result tag d.next s) s.table) = c.release.ensures ∙ (ap (released gone) c.give.ensures ∙ (λ i. released gone (given at.name (record { page = c.next_page-page.ensures i; tag = tag; stamp = n.stamp i }) (e.spends i).table))) in
     let count : c.program.new.self.count ≡ s.count + 1 - 1 = ap (λ (x : Mapped). x.count) e.spends ∙ omega arith in
     let t : Mapped = record (seen g.M.Nand.contents c.program.new.self) { table = c.release.new.self } in
-    let path : t ≡ dropped gone (placed at.name tag image s) = λ i. record (e.spends i) { table = table i; count = count i } in
+    let path : t ≡ dropped gone (placed c.next_block-block.result at.name tag image s) = λ i. record (e.spends i) { table = table i; count = count i } in
     let later = e.later in
     record {
       stops = record {
         later = later;
-        each = λ m x left. let now = left.0 in inr (omega (arith, later, now), omega (arith, now), inr (left_with at tag main s image f room c.requires.stamp n k told x (left.1 ∙ ap stored_in path)));
+        each = λ m x left. let now = left.0 in inr (omega (arith, later, now), omega (arith, now), inr (left_with c.next_block-block.result at tag main s image f c.next_block-block.ensures c.requires.stamp n k told x (left.1 ∙ ap stored_in path)));
       };
-      now = inr (left_with at tag main s image f room c.requires.stamp n k told (stored_in t) (ap stored_in path));
+      now = inr (left_with c.next_block-block.result at tag main s image f c.next_block-block.ensures c.requires.stamp n k told (stored_in t) (ap stored_in path));
     }
 
 pub returns-in-Done-clause-kept : goal.returns-in-Done-clause-kept
@@ -222,21 +221,21 @@ returns-in-Done-clause-kept g c =
     let at = c.new_pointer-at.result in
     let n = c.new_pointer-at.ensures in
     let room : 0 < s.room = omega (arith, c.if-self-eq0.false) in
-    let k : IsProgrammed g.M.Nand.tells tag main s image = record { others = e.others; holds = λ t. e.programmed t c.in-Done.is; shows = e.shows } in
+    let k : IsProgrammed g.M.Nand.tells c.next_block-block.result tag d.next main s image = record { others = e.others; holds = λ t. e.programmed t c.in-Done.is; shows = e.shows } in
     let was = led_entry (live_at d.table gone) c.args.old.stamp (sym c.leads.ensures ∙ c.if-not-leads.false) in
-    let table : c.release.new.self ≡ released gone (given at.name (next_entry tag s) s.table) = c.release.ensures ∙ (ap (released gone) c.give.ensures ∙ (λ i. released gone (given at.name (record { page = d.head; tag = tag; stamp = n.stamp i }) (e.spends i).table))) in
+    let table : c.release.new.self ≡ released gone (given at.name (next_entry c.next_block-block.result tag d.next s) s.table) = c.release.ensures ∙ (ap (released gone) c.give.ensures ∙ (λ i. released gone (given at.name (record { page = c.next_page-page.ensures i; tag = tag; stamp = n.stamp i }) (e.spends i).table))) in
     let count : c.program.new.self.count ≡ s.count + 1 - 1 = ap (λ (x : Mapped). x.count) e.spends ∙ omega arith in
     let t : Mapped = record (seen g.M.Nand.contents c.program.new.self) { table = c.release.new.self } in
-    let path : t ≡ dropped gone (placed at.name tag image s) = λ i. record (e.spends i) { table = table i; count = count i } in
+    let path : t ≡ dropped gone (placed c.next_block-block.result at.name tag image s) = λ i. record (e.spends i) { table = table i; count = count i } in
     record {
       virtual = record {
         same_shape = ap (λ (x : Mapped). x.shape) path;
         same_stamps = λ v. ap (λ (x : Mapped). stamp_for x.vseg.places v) path;
-        same_map = λ told v. ap (λ (x : Mapped). map_of x.vseg.places x.image v) path ∙ map_now at tag main s image f room c.requires.stamp n k told v;
+        same_map = λ told v. ap (λ (x : Mapped). map_of x.vseg.places x.image v) path ∙ map_now c.next_block-block.result at tag main s image f c.next_block-block.ensures c.requires.stamp n k told v;
         no_failed = λ told v x no. no;
         spare = λ q. subst (λ (x : Mapped). SegmentHasUnmapped x.vseg) (sym path) q;
       };
-      bytes = λ told q page live. ap (λ (x : Mapped). bytes_at x q) path ∙ bytes_kept at tag main s image f room c.requires.stamp n k told q page live;
+      bytes = λ told q page live. ap (λ (x : Mapped). bytes_at x q) path ∙ bytes_kept c.next_block-block.result at tag main s image f c.next_block-block.ensures c.requires.stamp n k told q page live;
       clean = λ q. q;
       read_faults = e.counted.same_read_faults;
     }

@@ -7,7 +7,7 @@ use Rattle.nl_pagemap.specs.Placing.{IsProgrammed, next_entry, placed}
 use Rattle.nl_pagemap.specs.Stands.{IsMapped}
 use Rattle.nl_pagemap.proofs.Failures.{done_faults, done_stamp, earlier, failed_faults, failed_stamp}
 use Rattle.nl_pagemap.proofs.Programmed.{not_both}
-use Rattle.nl_pagemap.proofs.Numbers.{within}
+use Rattle.nl_pagemap.proofs.Numbers.{few_used, within}
 use Rattle.nl_pagemap.proofs.Placed.{bytes_here, bytes_kept, count_now, is_new, left_with, live_now, map_now, named_other, placed_mapped, stays, wrote}
 use Rattle.nl_pagemap.proofs.Wasted.{fails, left_without, wasted_bytes, wasted_map, wasted_mapped}
 use Rattle.nl_pagemap_names.specs.Table.{given}
@@ -19,6 +19,12 @@ pub give-requires : goal.give-requires
 give-requires g c =
     subst (λ (x : Mapped). c.new_pointer-at.result.name < length x.table.entries) (sym c.program.ensures.spends)
     (within c.requires.formed c.new_pointer-at.result.name c.new_pointer-at.ensures.below)
+
+pub overflow_add-self : goal.overflow_add-self
+overflow_add-self g c =
+    let same = ap (λ (x : Mapped). x.count) c.program.ensures.spends in
+    let few = few_used c.requires.formed in
+    omega (arith, same, few)
 
 pub returns-then-self-eq0-clause-left : goal.returns-then-self-eq0-clause-left
 returns-then-self-eq0-clause-left g c told = record {
@@ -36,7 +42,7 @@ returns-in-Failed-clause-formed g c =
     let image = g.M.Nand.contents c.program.new.self.media in
     subst (λ (x : Geometry). IsMapped g.M.Nand.tells x (seen g.M.Nand.contents c.program.new.self)) (sym e.counted.same_geometry)
     (subst (λ (x : Mapped). IsMapped g.M.Nand.tells (g.M.Nand.geometry d.media) x) (sym e.spends)
-    (wasted_mapped s image c.requires.formed (omega (arith, c.if-self-eq0.false)) c.requires.stamp e.others))
+    (wasted_mapped c.next_block-block.result s image c.requires.formed c.next_block-block.ensures c.requires.stamp e.others))
 
 pub returns-in-Failed-clause-none : goal.returns-in-Failed-clause-none
 returns-in-Failed-clause-none g c unplaced =
@@ -56,9 +62,9 @@ returns-in-Failed-clause-left g c told =
     record {
       stops = record {
         later = later;
-        each = λ m x left. let now = left.0 in inr (omega (arith, later, now), omega (arith, now), inl ((λ no. absurd no), left_without s image c.requires.formed (omega (arith, c.if-self-eq0.false)) c.requires.stamp e.others told _ x (left.1 ∙ ap stored_in e.spends)));
+        each = λ m x left. let now = left.0 in inr (omega (arith, later, now), omega (arith, now), inl ((λ no. absurd no), left_without c.next_block-block.result s image c.requires.formed c.next_block-block.ensures c.requires.stamp e.others told _ x (left.1 ∙ ap stored_in e.spends)));
       };
-      now = inl ((λ no. no), left_without s image c.requires.formed (omega (arith, c.if-self-eq0.false)) c.requires.stamp e.others told _ (stored_in (seen g.M.Nand.contents c.program.new.self)) (ap stored_in e.spends));
+      now = inl ((λ no. no), left_without c.next_block-block.result s image c.requires.formed c.next_block-block.ensures c.requires.stamp e.others told _ (stored_in (seen g.M.Nand.contents c.program.new.self)) (ap stored_in e.spends));
     }
 
 pub returns-in-Failed-clause-kept : goal.returns-in-Failed-clause-kept
@@ -66,16 +72,15 @@ returns-in-Failed-clause-kept g c =
     let s = seen g.M.Nand.contents c.args.self.now in
     let e = c.program.ensures in
     let image = g.M.Nand.contents c.program.new.self.media in
-    let room : 0 < s.room = omega (arith, c.if-self-eq0.false) in
     record {
       virtual = record {
         same_shape = ap (λ (x : Mapped). x.shape) e.spends;
         same_stamps = λ v. ap (λ (x : Mapped). stamp_for x.vseg.places v) e.spends;
-        same_map = λ told v. ap (λ (x : Mapped). map_of x.vseg.places x.image v) e.spends ∙ wasted_map s image c.requires.formed room c.requires.stamp e.others told v;
+        same_map = λ told v. ap (λ (x : Mapped). map_of x.vseg.places x.image v) e.spends ∙ wasted_map c.next_block-block.result s image c.requires.formed c.next_block-block.ensures c.requires.stamp e.others told v;
         no_failed = λ told v x no. no;
         spare = λ k. subst (λ (x : Mapped). SegmentHasUnmapped x.vseg) (sym e.spends) k;
       };
-      bytes = λ told q page live. ap (λ (x : Mapped). bytes_at x q) e.spends ∙ wasted_bytes s image c.requires.formed room c.requires.stamp e.others told q;
+      bytes = λ told q page live. ap (λ (x : Mapped). bytes_at x q) e.spends ∙ wasted_bytes c.next_block-block.result s image c.requires.formed c.next_block-block.ensures c.requires.stamp e.others told q;
       clean = λ k. k;
       read_faults = e.counted.same_read_faults;
     }
@@ -109,12 +114,12 @@ returns-in-Done-clause-formed g c =
     let image = g.M.Nand.contents c.program.new.self.media in
     let at = c.new_pointer-at.result in
     let n = c.new_pointer-at.ensures in
-    let k : IsProgrammed g.M.Nand.tells c.args.tag c.args.from.now.main s image = record { others = e.others; holds = λ t. e.programmed t c.in-Done.is; shows = e.shows } in
-    let table : c.give.new.self ≡ given at.name (next_entry c.args.tag s) s.table = c.give.ensures ∙ (λ i. given at.name (record { page = d.head; tag = c.args.tag; stamp = n.stamp i }) (e.spends i).table) in
-    let path : record (seen g.M.Nand.contents c.program.new.self) { table = c.give.new.self; count = c.program.new.self.count + 1 } ≡ placed at.name c.args.tag image s = λ i. record (e.spends i) { table = table i; count = (e.spends i).count + 1 } in
+    let k : IsProgrammed g.M.Nand.tells c.next_block-block.result c.args.tag d.next c.args.from.now.main s image = record { others = e.others; holds = λ t. e.programmed t c.in-Done.is; shows = e.shows } in
+    let table : c.give.new.self ≡ given at.name (next_entry c.next_block-block.result c.args.tag d.next s) s.table = c.give.ensures ∙ (λ i. given at.name (record { page = c.next_page-page.ensures i; tag = c.args.tag; stamp = n.stamp i }) (e.spends i).table) in
+    let path : record (seen g.M.Nand.contents c.program.new.self) { table = c.give.new.self; count = c.program.new.self.count + 1 } ≡ placed c.next_block-block.result at.name c.args.tag image s = λ i. record (e.spends i) { table = table i; count = (e.spends i).count + 1 } in
     subst (λ (x : Geometry). IsMapped g.M.Nand.tells x (record (seen g.M.Nand.contents c.program.new.self) { table = c.give.new.self; count = c.program.new.self.count + 1 })) (sym e.counted.same_geometry)
     (subst (λ (x : Mapped). IsMapped g.M.Nand.tells (g.M.Nand.geometry d.media) x) (sym path)
-    (placed_mapped at c.args.tag c.args.from.now.main s image c.requires.formed (omega (arith, c.if-self-eq0.false)) c.requires.stamp n k))
+    (placed_mapped c.next_block-block.result at c.args.tag c.args.from.now.main s image c.requires.formed c.next_block-block.ensures c.requires.stamp n k))
 
 pub returns-in-Done-clause-placed : goal.returns-in-Done-clause-placed
 returns-in-Done-clause-placed g c =
@@ -128,26 +133,26 @@ returns-in-Done-clause-placed g c =
     let at = c.new_pointer-at.result in
     let n = c.new_pointer-at.ensures in
     let room : 0 < s.room = omega (arith, c.if-self-eq0.false) in
-    let k : IsProgrammed g.M.Nand.tells tag main s image = record { others = e.others; holds = λ t. e.programmed t c.in-Done.is; shows = e.shows } in
-    let table : c.give.new.self ≡ given at.name (next_entry c.args.tag s) s.table = c.give.ensures ∙ (λ i. given at.name (record { page = d.head; tag = tag; stamp = n.stamp i }) (e.spends i).table) in
+    let k : IsProgrammed g.M.Nand.tells c.next_block-block.result tag d.next main s image = record { others = e.others; holds = λ t. e.programmed t c.in-Done.is; shows = e.shows } in
+    let table : c.give.new.self ≡ given at.name (next_entry c.next_block-block.result c.args.tag d.next s) s.table = c.give.ensures ∙ (λ i. given at.name (record { page = c.next_page-page.ensures i; tag = tag; stamp = n.stamp i }) (e.spends i).table) in
     let t : Mapped = record (seen g.M.Nand.contents c.program.new.self) { table = c.give.new.self; count = c.program.new.self.count + 1 } in
-    let path : t ≡ placed at.name tag image s = λ i. record (e.spends i) { table = table i; count = (e.spends i).count + 1 } in
+    let path : t ≡ placed c.next_block-block.result at.name tag image s = λ i. record (e.spends i) { table = table i; count = (e.spends i).count + 1 } in
     let left = ap (λ (x : Mapped). x.room) path in
     let live = ap (λ (x : Mapped). live_among x.shape x.table) path in
-    let more = count_now at tag main s image f room c.requires.stamp n k in
+    let more = count_now c.next_block-block.result at tag main s image f c.next_block-block.ensures c.requires.stamp n k in
     record {
       stamp = n.stamp;
-      is_new = is_new at tag main s image f room c.requires.stamp n k;
+      is_new = is_new c.next_block-block.result at tag main s image f c.next_block-block.ensures c.requires.stamp n k;
       names = record {
-        live = λ q. ap (λ (x : Mapped). page_live x.table q) path ∙ live_now at tag main s image f room c.requires.stamp n k q;
+        live = λ q. ap (λ (x : Mapped). page_live x.table q) path ∙ live_now c.next_block-block.result at tag main s image f c.next_block-block.ensures c.requires.stamp n k q;
         pairs = refl;
         pending = refl;
         handled = λ x has. refl;
         posted = refl;
       };
       space = wrote 0 s t (ap (λ (x : Mapped). x.shape) path) (omega (arith, left, room)) (omega (arith, live, more));
-      bytes = λ told. ap (λ (x : Mapped). bytes_at x at.name) path ∙ bytes_here at tag main s image f room c.requires.stamp n k told;
-      block = λ told none q off. inl (ap (λ (x : Mapped). named_at x q) path ∙ named_other at tag main s image f room c.requires.stamp n k told q off);
+      bytes = λ told. ap (λ (x : Mapped). bytes_at x at.name) path ∙ bytes_here c.next_block-block.result at tag main s image f c.next_block-block.ensures c.requires.stamp n k told;
+      block = λ told none q off. inl (ap (λ (x : Mapped). named_at x q) path ∙ named_other c.next_block-block.result at tag main s image f c.next_block-block.ensures c.requires.stamp n k told q off);
     }
 
 pub returns-in-Done-clause-left : goal.returns-in-Done-clause-left
@@ -162,17 +167,17 @@ returns-in-Done-clause-left g c told =
     let at = c.new_pointer-at.result in
     let n = c.new_pointer-at.ensures in
     let room : 0 < s.room = omega (arith, c.if-self-eq0.false) in
-    let k : IsProgrammed g.M.Nand.tells tag main s image = record { others = e.others; holds = λ t. e.programmed t c.in-Done.is; shows = e.shows } in
-    let table : c.give.new.self ≡ given at.name (next_entry c.args.tag s) s.table = c.give.ensures ∙ (λ i. given at.name (record { page = d.head; tag = tag; stamp = n.stamp i }) (e.spends i).table) in
+    let k : IsProgrammed g.M.Nand.tells c.next_block-block.result tag d.next main s image = record { others = e.others; holds = λ t. e.programmed t c.in-Done.is; shows = e.shows } in
+    let table : c.give.new.self ≡ given at.name (next_entry c.next_block-block.result c.args.tag d.next s) s.table = c.give.ensures ∙ (λ i. given at.name (record { page = c.next_page-page.ensures i; tag = tag; stamp = n.stamp i }) (e.spends i).table) in
     let t : Mapped = record (seen g.M.Nand.contents c.program.new.self) { table = c.give.new.self; count = c.program.new.self.count + 1 } in
-    let path : t ≡ placed at.name tag image s = λ i. record (e.spends i) { table = table i; count = (e.spends i).count + 1 } in
+    let path : t ≡ placed c.next_block-block.result at.name tag image s = λ i. record (e.spends i) { table = table i; count = (e.spends i).count + 1 } in
     let later = e.later in
     record {
       stops = record {
         later = later;
-        each = λ m x left. let now = left.0 in inr (omega (arith, later, now), omega (arith, now), inr (left_with at tag main s image f room c.requires.stamp n k told x (left.1 ∙ ap stored_in path)));
+        each = λ m x left. let now = left.0 in inr (omega (arith, later, now), omega (arith, now), inr (left_with c.next_block-block.result at tag main s image f c.next_block-block.ensures c.requires.stamp n k told x (left.1 ∙ ap stored_in path)));
       };
-      now = inr (left_with at tag main s image f room c.requires.stamp n k told (stored_in t) (ap stored_in path));
+      now = inr (left_with c.next_block-block.result at tag main s image f c.next_block-block.ensures c.requires.stamp n k told (stored_in t) (ap stored_in path));
     }
 
 pub returns-in-Done-clause-kept : goal.returns-in-Done-clause-kept
@@ -187,19 +192,19 @@ returns-in-Done-clause-kept g c =
     let at = c.new_pointer-at.result in
     let n = c.new_pointer-at.ensures in
     let room : 0 < s.room = omega (arith, c.if-self-eq0.false) in
-    let k : IsProgrammed g.M.Nand.tells tag main s image = record { others = e.others; holds = λ t. e.programmed t c.in-Done.is; shows = e.shows } in
-    let table : c.give.new.self ≡ given at.name (next_entry c.args.tag s) s.table = c.give.ensures ∙ (λ i. given at.name (record { page = d.head; tag = tag; stamp = n.stamp i }) (e.spends i).table) in
+    let k : IsProgrammed g.M.Nand.tells c.next_block-block.result tag d.next main s image = record { others = e.others; holds = λ t. e.programmed t c.in-Done.is; shows = e.shows } in
+    let table : c.give.new.self ≡ given at.name (next_entry c.next_block-block.result c.args.tag d.next s) s.table = c.give.ensures ∙ (λ i. given at.name (record { page = c.next_page-page.ensures i; tag = tag; stamp = n.stamp i }) (e.spends i).table) in
     let t : Mapped = record (seen g.M.Nand.contents c.program.new.self) { table = c.give.new.self; count = c.program.new.self.count + 1 } in
-    let path : t ≡ placed at.name tag image s = λ i. record (e.spends i) { table = table i; count = (e.spends i).count + 1 } in
+    let path : t ≡ placed c.next_block-block.result at.name tag image s = λ i. record (e.spends i) { table = table i; count = (e.spends i).count + 1 } in
     record {
       virtual = record {
         same_shape = ap (λ (x : Mapped). x.shape) path;
         same_stamps = λ v. ap (λ (x : Mapped). stamp_for x.vseg.places v) path;
-        same_map = λ told v. ap (λ (x : Mapped). map_of x.vseg.places x.image v) path ∙ map_now at tag main s image f room c.requires.stamp n k told v;
+        same_map = λ told v. ap (λ (x : Mapped). map_of x.vseg.places x.image v) path ∙ map_now c.next_block-block.result at tag main s image f c.next_block-block.ensures c.requires.stamp n k told v;
         no_failed = λ told v x no. no;
         spare = λ q. subst (λ (x : Mapped). SegmentHasUnmapped x.vseg) (sym path) q;
       };
-      bytes = λ told q page live. ap (λ (x : Mapped). bytes_at x q) path ∙ bytes_kept at tag main s image f room c.requires.stamp n k told q page live;
+      bytes = λ told q page live. ap (λ (x : Mapped). bytes_at x q) path ∙ bytes_kept c.next_block-block.result at tag main s image f c.next_block-block.ensures c.requires.stamp n k told q page live;
       clean = λ q. q;
       read_faults = e.counted.same_read_faults;
     }

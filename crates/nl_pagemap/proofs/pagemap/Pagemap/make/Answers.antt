@@ -1,5 +1,5 @@
 use Rattle.std.proofs.Common.{◌-◌, ◌*◌, refl, sym, subst, ap, ◌∙◌}
-use Rattle.nl_pagemap.specs.Mapped.{page_live}
+use Rattle.nl_pagemap.specs.Mapped.{Mapped, page_live}
 use Rattle.nl_pagemap.specs.Stands.{IsMapped}
 use Rattle.nl_pagemap.proofs.Fresh.{fresh, fresh_mapped, fresh_room, no_stamp, none_live}
 use Rattle.nl_pagemap_names.specs.Table.{Table}
@@ -11,7 +11,7 @@ returns-in-Ok-clause-formed g c =
     let e = c.in-Ok.ensures in
     let q = c.requires in
     let image = g.M.Nand.contents c.args.media in
-    subst (λ (t : Table). IsMapped g.M.Nand.tells (g.M.Nand.geometry c.args.media) (record (fresh shape c.in-Ok.field-0.vseg image) { table = t })) (sym e.table)
+    subst (λ (x : Mapped). IsMapped g.M.Nand.tells (g.M.Nand.geometry c.args.media) x) (λ i. record (fresh shape c.in-Ok.field-0.vseg image) { table = (sym e.table) i; untried = (sym e.untried) i })
     (fresh_mapped shape c.in-Ok.field-0.vseg image q.volume q.bounds q.geometry q.blank e.places e.pages e.bound e.within)
 
 pub returns-in-Ok-clause-fresh : goal.returns-in-Ok-clause-fresh

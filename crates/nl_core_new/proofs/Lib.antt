@@ -1,0 +1,4 @@
+pub mod Begun
+pub mod Ready
+pub mod Root
+pub mod Written

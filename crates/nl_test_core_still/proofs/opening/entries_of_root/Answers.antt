@@ -1,7 +1,0 @@
-use Rattle.std.proofs.Common.{◌∙◌, ap, sym}
-use Rattle.nl_field.specs.declared.inode.InodeRec.{InodeRec}
-use Rattle.nl_meta.proofs.Lists.{some_in}
-use Rattle.nl_test_core_still.proofs.opening.entries_of_root.Goals as goal
-
-pub returns : goal.returns
-returns c rec at = ap (λ (r : InodeRec). r.size) (some_in rec c.get-root.result (sym at ∙ c.get-root.ensures))
