@@ -21,7 +21,7 @@ use Rattle.nl_cmd_put.specs.Putting.{BytesEnd, PutEnds, PutRan, RefusedBefore, a
 use Rattle.nl_cmd_put.specs.Putting.{ran as put_ran, source_fault as put_source_fault}
 use Rattle.nl_top.specs.Complete.{CarriesOut}
 use Rattle.nl_top.specs.Leaving.{Leaving, new_volume, nothing_new, prefixes_of}
-use Rattle.nl_top.specs.Ends.{CallEnds, MayRefuse, checks, faulty_words, formats, gets, maps, maps_as_picture, puts, reports, runs, shows_tree, soaks}
+use Rattle.nl_top.specs.Ends.{CallEnds, MayRefuse, checks, compares, faulty_words, formats, gets, maps, maps_as_picture, puts, reports, runs, shows_tree, soaks}
 use Rattle.nl_top.specs.Soak.{Summarises}
 use Rattle.nl_top.specs.RunEnds.{RunEnds, ScriptEnds, PrintsAnswers, not_run, ran, runs_script, script_refused, source_fault, source_no_memory}
 use Rattle.nl_app_file.specs.Ended.{EndsOnFile, forms}
@@ -116,6 +116,7 @@ module _ {tells : Type 0} {leaves leaves' : Leaving → Type 0} (by : (l : Leavi
   ends_by words (gets path is at same kept ends) = gets path is at same (by nothing_new kept) ends
   ends_by words (puts path is at ends) = puts path is at (put_by path ends)
   ends_by words (soaks seed count workers lines is same drawn ends) = soaks seed count workers lines is same drawn (ran_by lines (Summarises tells) ends)
+  ends_by words (compares seed count workers lines is same none drawn ends) = compares seed count workers lines is same none drawn ends
 
 -- of the command alone that forms the medium
 not_forming : {o : Option Command} {command : Command} → forms o ≡ true → o ≡ Some command → forms (Some command) ≡ false → ⊥
@@ -134,6 +135,7 @@ module _ {tells : Type 0} {leaves leaves' : Leaving → Type 0} (by : leaves new
   forming_by (gets path is at same kept ends) = absurd (not_forming is_format is refl)
   forming_by (puts path is at ends) = absurd (not_forming is_format is refl)
   forming_by (soaks seed count workers lines is same drawn ends) = absurd (not_forming is_format is refl)
+  forming_by (compares seed count workers lines is same none drawn ends) = absurd (not_forming is_format is refl)
 
 -- ---- faulty words
 
@@ -159,6 +161,7 @@ module _ {tells : Type 0} {words : List (List ℕ)} {leaves : Leaving → Type 0
   told_faulty (gets path is at same kept ends) = absurd (not_both none is)
   told_faulty (puts path is at ends) = absurd (not_both none is)
   told_faulty (soaks seed count workers lines is same drawn ends) = absurd (not_both none is)
+  told_faulty (compares seed count workers lines is same none drawn ends) = absurd (not_both none is)
 
 -- nothing was done before a line, and the medium is one that stays
 stays : {tells : Type 0} {sink sink' : Stream} (m : Medium) → Prints sink sink' (codes "words\n") → EndsBefore tells (codes "words\n") sink sink' m m [] []

@@ -1,2 +1,3 @@
+pub mod Asking
 pub mod Charges
 pub mod Rounds

@@ -10,11 +10,12 @@ use Rattle.nl_turns.specs.History.{Opening}
 use Rattle.nl_turns.specs.declared.entry.Entry.{Entry}
 use Rattle.nl_put_tree.specs.Putting.{FitsVolume, IsBeside, IsUnderWay, IsWriting, Path, after, is_fault}
 use Rattle.nl_put_tree.proofs.Whole.{put_laws}
-use Rattle.nl_cmd_put.specs.Asking.{Asked, HasAsked, MetFault, tree_after}
+use Rattle.nl_cmd_put.specs.Asking.{MetFault}
+use Rattle.nl_cmd_course.specs.Asking.{Asked, HasAsked, tree_after}
 use Rattle.nl_cmd_put.specs.Phases.{HasPut, HasStopped, IsEnd, IsPutting, end_of_back, end_of_refusal, is_done, is_synced}
 use Rattle.nl_cmd_put.specs.declared.ending.End.{End}
 use Rattle.nl_cmd_put.specs.declared.ending.End.TheVariants as ends
-use Rattle.nl_cmd_put.proofs.Asked.{due_last, length_more}
+use Rattle.nl_cmd_course.proofs.Asked.{due_last, length_more}
 use Rattle.nl_cmd_put.proofs.Phases.{fault_kept, fault_last, putting_more, tree_more}
 
 -- the file is there, or was taken back where the call was done

@@ -39,12 +39,13 @@ use Rattle.nl_spec_headline.specs.Streams.{Medium, MediumRose}
 use Rattle.nl_cmd_course.proofs.Replies.{effects_length, marked as marked_reply, synced as synced_reply}
 use Rattle.nl_cmd_course.proofs.Stopping.{starts_as}
 use Rattle.nl_put_tree.specs.Putting.{IsBeside, IsPut, IsUnderWay, Path, is_fault}
-use Rattle.nl_cmd_put.specs.Asking.{Asked, MetFault, answers_from, course_of, entries_from, line_of, lines_from, marked, tree_after}
+use Rattle.nl_cmd_put.specs.Asking.{MetFault, answers_from, course_of}
+use Rattle.nl_cmd_course.specs.Asking.{Asked, entries_from, line_of, lines_from, marked, tree_after}
 use Rattle.nl_cmd_put.specs.Phases.{EndsSynced, IsEnd}
 use Rattle.nl_cmd_put.specs.OnVolume.{CourseEnds, IsDurable, RunsPut, last_of}
 use Rattle.nl_cmd_put.specs.declared.ending.End.{End}
 use Rattle.nl_cmd_put.specs.declared.ending.End.TheVariants as ends
-use Rattle.nl_cmd_put.proofs.Asked.{calls_are, knows, length_more}
+use Rattle.nl_cmd_course.proofs.Asked.{calls_are, knows, length_more}
 
 -- ---- the course, and the history
 

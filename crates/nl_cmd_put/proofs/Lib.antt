@@ -1,4 +1,3 @@
-pub mod Asked
 pub mod Back
 pub mod Completing
 pub mod Course

@@ -20,11 +20,12 @@ use Rattle.nl_turns.specs.declared.entry.Entry.{Entry}
 use Rattle.nl_put_tree.specs.Putting.{FitsVolume, IsBeside, IsDue, IsPut, IsUnderWay, IsWriting, Path, Refuses, after, is_fault, no_name, no_room, not_renamed}
 use Rattle.nl_put_tree.proofs.Steps.{after_fault}
 use Rattle.nl_put_tree.proofs.Whole.{put_laws}
-use Rattle.nl_cmd_put.specs.Asking.{Asked, FromEachAsked, HasAsked, MayAsk, MetFault, marked, tree_after}
+use Rattle.nl_cmd_put.specs.Asking.{MetFault}
+use Rattle.nl_cmd_course.specs.Asking.{Asked, FromEachAsked, HasAsked, MayAsk, marked, tree_after}
 use Rattle.nl_cmd_put.specs.Phases.{EndsTried, HasPut, HasStopped, HasTried, IsEnd, IsPutting, RenamesOwn, StandsAt, TriesOwn, WritesPiece, end_of_sync, is_count, is_done, tried_by}
 use Rattle.nl_cmd_put.specs.declared.ending.End.{End}
 use Rattle.nl_cmd_put.specs.declared.ending.End.TheVariants as ends
-use Rattle.nl_cmd_put.proofs.Asked.{due_last, length_more}
+use Rattle.nl_cmd_course.proofs.Asked.{due_last, length_more}
 
 -- ---- the first piece, and the rest
 

@@ -6,7 +6,7 @@ use Rattle.nl_tree.specs.declared.reply.FaultReply.TheVariants.{Eio}
 use Rattle.nl_tree.specs.declared.reply.Reply.TheVariants.{Done, Fault, Synced}
 use Rattle.nl_turns.specs.History.{Opening}
 use Rattle.nl_put_tree.specs.Examples.{a, own, small}
-use Rattle.nl_cmd_put.specs.Asking.{Asked}
+use Rattle.nl_cmd_course.specs.Asking.{Asked}
 
 -- a volume of 32 blocks of 32 pages opened with only the root, after no call
 abbrev pub opened_empty : Opening

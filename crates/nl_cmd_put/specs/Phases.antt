@@ -13,7 +13,8 @@ use Rattle.nl_tree.specs.declared.reply.Reply.TheVariants.{Count, Done, No, Sync
 use Rattle.nl_turns.specs.History.{Opening}
 use Rattle.nl_turns.specs.declared.entry.Entry.{Entry}
 use Rattle.nl_put_tree.specs.Putting.{FitsVolume, IsBeside, IsPut, IsUnderWay, IsWriting, Path, Refuses}
-use Rattle.nl_cmd_put.specs.Asking.{Asked, HasAsked, MetFault, marked, tree_after}
+use Rattle.nl_cmd_put.specs.Asking.{MetFault}
+use Rattle.nl_cmd_course.specs.Asking.{Asked, HasAsked, marked, tree_after}
 use Rattle.nl_cmd_put.specs.declared.creating.Created.{Created}
 use Rattle.nl_cmd_put.specs.declared.creating.Created.TheVariants as created
 use Rattle.nl_cmd_put.specs.declared.creating.Tried.{Tried}

@@ -1,6 +1,7 @@
 // One call that a volume is asked, behind those before it.
 ghost use Rattle.std.specs.Prelude.{◌≡◌, ◌∷◌, ◌++◌, []};
-ghost use Rattle.nl_cmd_put.specs.Asking.{FromEachAsked, HasAsked, MayAsk, NamesOwn, own_of};
+ghost use Rattle.nl_cmd_put.specs.Asking.{NamesOwn, own_of};
+ghost use Rattle.nl_cmd_course.specs.Asking.{FromEachAsked, HasAsked, MayAsk};
 ghost use Rattle.nl_tree.specs.Calls.{IsBounded};
 
 use nl_nand::Nand;

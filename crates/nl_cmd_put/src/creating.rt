@@ -1,7 +1,7 @@
 // The file of its own is made, under the first name that nothing has.
 ghost use Rattle.std.specs.Prelude.{◌≡◌, ◌<◌, ◌≤◌, ◌+◌, ℕ, List, length};
 ghost use Rattle.nl_put_tree.specs.Putting.{IsBeside};
-ghost use Rattle.nl_cmd_put.specs.Asking.{MayAsk};
+ghost use Rattle.nl_cmd_course.specs.Asking.{MayAsk};
 ghost use Rattle.nl_cmd_put.specs.Phases.{CreatesOwn, EndsTried, FromEachFresh, FromEachTried, HasFewAsked, IfCreated, IfOwn, TriesOwn, tried_by};
 ghost use Rattle.nl_tree.specs.Calls.{AreNames};
 

@@ -1,7 +1,7 @@
 // How a put ends: the file is renamed and synced, or taken back.
 ghost use Rattle.std.specs.Prelude.{◌≡◌, ◌<◌, ◌+◌, ◌^◌, ℕ, List, length};
 ghost use Rattle.nl_put_tree.specs.Putting.{IsBeside};
-ghost use Rattle.nl_cmd_put.specs.Asking.{MayAsk};
+ghost use Rattle.nl_cmd_course.specs.Asking.{MayAsk};
 ghost use Rattle.nl_cmd_put.specs.Phases.{FromEachPut, FromEachStopped, FromEachWriting, HasPut, end_of_back, is_done, is_synced};
 ghost use Rattle.nl_put_tree.specs.Putting.{FitsVolume};
 ghost use Rattle.nl_tree.specs.Calls.{AreNames};

@@ -3,7 +3,7 @@ ghost use Rattle.std.specs.Prelude.{◌≡◌, ◌<◌, ◌≤◌, ◌+◌, ◌^
 ghost use Rattle.std.specs.List.{AllByRecursion};
 ghost use Rattle.nl_core_open.specs.Opening.{OnlyReadsMedium};
 ghost use Rattle.nl_field.specs.Numbers.{max_bytes};
-ghost use Rattle.nl_cmd_put.specs.Asking.{MayAsk};
+ghost use Rattle.nl_cmd_course.specs.Asking.{MayAsk};
 ghost use Rattle.nl_cmd_put.specs.Phases.{FromEachFresh, HasPut, joined};
 ghost use Rattle.nl_cmd_put.specs.OnVolume.{RunsPut};
 ghost use Rattle.nl_spec_headline.specs.Course.{Course};

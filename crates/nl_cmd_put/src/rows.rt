@@ -8,7 +8,8 @@ ghost use Rattle.nl_tree.specs.declared.reply.Reply.TheVariants.{Count, Done, Fa
 ghost use Rattle.nl_spec_headline.specs.Course.{calls_in, lines_in};
 ghost use Rattle.nl_put_tree.specs.Examples.{a, own, small, with_empty, with_two};
 ghost use Rattle.nl_put_tree.specs.Putting.{FitsVolume, IsPut, IsUnderWay, IsWriting};
-ghost use Rattle.nl_cmd_put.specs.Asking.{AreDue, MetFault, NamesOwn, course_of, lines_from, marked, own_of, tree_after};
+ghost use Rattle.nl_cmd_put.specs.Asking.{MetFault, NamesOwn, course_of, own_of};
+ghost use Rattle.nl_cmd_course.specs.Asking.{AreDue, lines_from, marked, tree_after};
 ghost use Rattle.nl_cmd_put.specs.Cutting.{AreCut};
 ghost use Rattle.nl_cmd_put.specs.Examples.{opened_empty, sync_and_create, sync_failed, three_asked};
 ghost use Rattle.nl_cmd_put.specs.Naming.{IsMarked};

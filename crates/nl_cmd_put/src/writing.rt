@@ -3,7 +3,7 @@ ghost use Rattle.std.specs.Prelude.{◌≡◌, ◌<◌, ◌≤◌, ◌+◌, ◌*
 ghost use Rattle.std.specs.List.{AllByRecursion};
 ghost use Rattle.nl_field.specs.Numbers.{max_bytes};
 ghost use Rattle.nl_put_tree.specs.Putting.{IsBeside, IsWriting};
-ghost use Rattle.nl_cmd_put.specs.Asking.{MayAsk};
+ghost use Rattle.nl_cmd_course.specs.Asking.{MayAsk};
 ghost use Rattle.nl_cmd_put.specs.Phases.{FromEachWriting, WritesAll, WritesPiece, is_count, joined};
 ghost use Rattle.nl_tree.specs.Calls.{AreNames};
 

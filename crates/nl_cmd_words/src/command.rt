@@ -1,7 +1,7 @@
 // The words of a command line.
 ghost use Rattle.std.specs.Prelude.{◌≡◌, IfSome};
 ghost use Rattle.nl_script.specs.Spellings.{digits_of};
-ghost use Rattle.nl_cmd_words.specs.Command.{HasPath, IsLegalCommand, command_of, format_of, path_command, plain_command, soak_of};
+ghost use Rattle.nl_cmd_words.specs.Command.{HasPath, IsLegalCommand, command_of, drawing, drawn_of, format_of, path_command, plain_command};
 ghost use Rattle.nl_cmd_words.specs.Paths.{spelled_path};
 
 use crate::paths::is_path;
@@ -32,9 +32,11 @@ pub enum Command {
     Put,
     /// Runs the script that is drawn from a seed, of so many lines for each of so many workers, and prints a summary.
     Soak(u64, u32, u8),
+    /// Answers the lines of that script one after the other on two volumes in memory, and prints the most that their tables of names had.
+    Compare(u64, u32, u8),
 }
 
-/// The most lines of a soak for each worker, and the most workers.
+/// The most lines for each worker of a script that is drawn, and the most workers.
 const MAX_LINES: u32 = 20_000;
 
 const MAX_WORKERS: u8 = 8;
@@ -52,9 +54,9 @@ fn format_of(blocks: &[u8], pages: &[u8]) -> Option<Command>
     }
 }
 
-// The command of a soak, where its numbers are legal.
-fn soak_of(seed: &[u8], lines: &[u8], workers: &[u8]) -> Option<Command>
-    ensures command { result ≡ soak_of (digits_of seed.now) (digits_of lines.now) (digits_of workers.now) }
+// The command that draws its script from these numbers, where they are legal: a comparison, or else a soak.
+fn drawn_of(compares: bool, seed: &[u8], lines: &[u8], workers: &[u8]) -> Option<Command>
+    ensures command { result ≡ drawn_of (drawing compares) (digits_of seed.now) (digits_of lines.now) (digits_of workers.now) }
     ensures legal { IfSome result IsLegalCommand }
 {
     let seed = number_of(seed)?;
@@ -63,7 +65,11 @@ fn soak_of(seed: &[u8], lines: &[u8], workers: &[u8]) -> Option<Command>
     if lines == 0 || lines > MAX_LINES || workers == 0 || workers > MAX_WORKERS {
         return None;
     }
-    Some(Command::Soak(seed, lines, workers))
+    if compares {
+        Some(Command::Compare(seed, lines, workers))
+    } else {
+        Some(Command::Soak(seed, lines, workers))
+    }
 }
 
 // The command of one word.
@@ -117,7 +123,10 @@ pub fn command_of(words: &Words) -> Option<Command>
             format_of(blocks.bytes(), pages.bytes())
         }
         [word, seed, lines, workers] if word.bytes() == b"soak".as_slice() => {
-            soak_of(seed.bytes(), lines.bytes(), workers.bytes())
+            drawn_of(false, seed.bytes(), lines.bytes(), workers.bytes())
+        }
+        [word, seed, lines, workers] if word.bytes() == b"compare".as_slice() => {
+            drawn_of(true, seed.bytes(), lines.bytes(), workers.bytes())
         }
         _ => None,
     }

@@ -14,6 +14,7 @@ pub fn commands()
     ensures map_svg { command_of (codes "map" ∷ codes "svg" ∷ []) ≡ Some command.MapSvg }
     ensures format { command_of (codes "format" ∷ codes "32" ∷ codes "032" ∷ []) ≡ Some (command.Format 32 32) }
     ensures soak { command_of (codes "soak" ∷ codes "0" ∷ codes "20000" ∷ codes "8" ∷ []) ≡ Some (command.Soak 0 20000 8) }
+    ensures compare { command_of (codes "compare" ∷ codes "7" ∷ codes "200" ∷ codes "8" ∷ []) ≡ Some (command.Compare 7 200 8) }
 {}
 
 /// Words that name no command, or whose numbers are illegal, are none.
@@ -29,6 +30,8 @@ pub fn no_commands()
     ensures no_lines { command_of (codes "soak" ∷ codes "1" ∷ codes "0" ∷ codes "1" ∷ []) ≡ None }
     ensures many_lines { command_of (codes "soak" ∷ codes "1" ∷ codes "20001" ∷ codes "1" ∷ []) ≡ None }
     ensures many_workers { command_of (codes "soak" ∷ codes "1" ∷ codes "1" ∷ codes "9" ∷ []) ≡ None }
+    ensures compare_nobody { command_of (codes "compare" ∷ codes "1" ∷ codes "1" ∷ codes "0" ∷ []) ≡ None }
+    ensures compare_alone { command_of (codes "compare" ∷ codes "1" ∷ []) ≡ None }
 {}
 
 /// A command on a path is named by its word, and has that path.

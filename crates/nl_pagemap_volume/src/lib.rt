@@ -4,6 +4,7 @@
 
 mod answering;
 mod cleaning;
+mod counts;
 mod freeing;
 mod serving;
 mod volume;

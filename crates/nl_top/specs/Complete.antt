@@ -6,7 +6,7 @@ use Rattle.nl_cmd_view.specs.Getting.{refusal_of_read}
 use Rattle.nl_cmd_put.specs.Complete.{IsPutOrRefused}
 use Rattle.nl_cmd_words.specs.Complete.{CountsLast, IsCarriedOut, StartsConsistent}
 use Rattle.nl_cmd_words.specs.declared.command.Command.{Command}
-use Rattle.nl_cmd_words.specs.declared.command.Command.TheVariants.{Check, Format, Get, Map, MapSvg, Put, Report, Run, Soak, Tree}
+use Rattle.nl_cmd_words.specs.declared.command.Command.TheVariants.{Check, Compare, Format, Get, Map, MapSvg, Put, Report, Run, Soak, Tree}
 use Rattle.nl_spec_headline.specs.Streams.{Medium, Stream}
 use Rattle.nl_spec_headline.specs.declared.lists.Ordered.{Ordered}
 use Rattle.nl_script.specs.Script.{script}
@@ -23,7 +23,7 @@ RunCompletes status order = ((status ≡ 0) × NoFaultAnswered order) ⊎ (statu
 -- Each command is carried out: a volume is made; a medium that starts consistent is checked, and its paths, its report and its map are
 -- printed, and the file at the path of the words, where its tree does not refuse to read there; and while counts last, the script that the
 -- source has left is run on it, and a soak, and no answer is a fault reply, and what the source has left is put at the path of the words,
--- or refused.
+-- or refused. A comparison, which asks nothing of the medium, prints its numbers.
 abbrev pub CarriesOut : Option Command → Option (List (List ℕ)) → Type 0 → Stream → Medium → Medium → List Ordered → ℕ → Type 0
 CarriesOut None path tells source medium medium' order status = ⊤
 CarriesOut (Some (Format blocks pages)) path tells source medium medium' order status = IsCarriedOut status
@@ -42,3 +42,4 @@ CarriesOut (Some Put) path tells source medium medium' order status =
     (count : ℕ) → StartsConsistent tells medium count → CountsLast medium medium' → IsPutOrRefused status
 CarriesOut (Some (Soak seed lines workers)) path tells source medium medium' order status =
     (count : ℕ) → StartsConsistent tells medium count → CountsLast medium medium' → RunCompletes status order
+CarriesOut (Some (Compare seed lines workers)) path tells source medium medium' order status = IsCarriedOut status

@@ -5,7 +5,7 @@ use Rattle.nl_cmd_words.specs.Command.{command_of}
 use Rattle.nl_cmd_words.specs.Ends.{CheckEnds, EndsBefore, FormatEnds}
 use Rattle.nl_cmd_words.specs.Paths.{path_word}
 use Rattle.nl_cmd_words.specs.declared.command.Command.{Command}
-use Rattle.nl_cmd_words.specs.declared.command.Command.TheVariants.{Check, Format, Get, Map, MapSvg, Put, Report, Run as RunScript, Soak, Tree as TreeCommand}
+use Rattle.nl_cmd_words.specs.declared.command.Command.TheVariants.{Check, Compare, Format, Get, Map, MapSvg, Put, Report, Run as RunScript, Soak, Tree as TreeCommand}
 use Rattle.nl_gen.specs.Soak.{soak_text}
 use Rattle.nl_spec_headline.specs.Streams.{Medium, Stream}
 use Rattle.nl_spec_headline.specs.declared.lists.Ordered.{Ordered}
@@ -14,6 +14,7 @@ use Rattle.nl_script.specs.Script.{script}
 use Rattle.nl_tree.specs.declared.call.Line.{Line}
 use Rattle.nl_tree.specs.declared.reply.Refusal.{Refusal}
 use Rattle.nl_cmd_view.specs.Getting.{GetEnds}
+use Rattle.nl_cmd_compare.specs.Ends.{CompareEnds}
 use Rattle.nl_cmd_map.specs.Mapping.{MapEnds}
 use Rattle.nl_cmd_put.specs.Putting.{PutEnds}
 use Rattle.nl_map.specs.Svg.{map_svg}
@@ -63,4 +64,8 @@ pub data CallEnds (tells : Type 0) (words : List (List ℕ)) (leaves : Leaving �
   soaks : (seed count workers : ℕ) (lines : List Line) → command_of words ≡ Some (Soak seed count workers) → source' ≡ source
       → script (soak_text seed count workers) ≡ Ok lines
       → RunEnds tells lines (Summarises tells) leaves sink sink' medium medium' order syncs status
+      → CallEnds tells words leaves source source' sink sink' medium medium' order syncs refused status
+  compares : (seed count workers : ℕ) (lines : List Line) → command_of words ≡ Some (Compare seed count workers) → source' ≡ source
+      → leaves nothing_new → script (soak_text seed count workers) ≡ Ok lines
+      → CompareEnds tells lines sink sink' medium medium' order syncs status
       → CallEnds tells words leaves source source' sink sink' medium medium' order syncs refused status

@@ -10,6 +10,8 @@ ghost use Rattle.nl_top.specs.Leaving.{leaves_within};
 use crate::on_path::{get_file, put_file};
 use crate::running::run;
 use crate::soaking::soak;
+use nl_cmd_compare::compare;
+use nl_cmd_compare::laws::compare_completes;
 use nl_cmd_map::laws::map_completes;
 use nl_cmd_map::{map, map_svg};
 use nl_cmd_put::laws::put_completes;
@@ -31,7 +33,8 @@ use std::thread::Threads;
 /// what is at fault. `tree` prints every path, `report` what the volume takes of what there is, `map` what is found on each page, and
 /// `map svg` that as a picture. `get PATH` prints the bytes of the file at a path. `put PATH` reads the whole source, makes the file at a
 /// path hold exactly its bytes, syncs, and prints how many they are. `soak SEED N W` runs a script that is drawn from a number, of N lines
-/// for each of W workers, and prints a summary.
+/// for each of W workers, and prints a summary. `compare SEED N W` answers that script line after line on two volumes of its own, on one of
+/// which the device leads numbers to pages by a map, and prints how large the tables of both become; the medium is left alone.
 ///
 /// Of a run, and of a soak, one order of all its lines is told. Over a medium that tells its contents each answer is what a plain tree of
 /// files replies at its place in that order, or a fault reply that has its cause; a stop within any program or erase leaves a medium that
@@ -105,6 +108,10 @@ pub fn nameless<Rt: Threads + Wait + Sync, S: Source, K: Sink, M: Nand + Send, G
         Some(Command::Soak(seed, count, workers)) => {
             opening_completes::<M>();
             soak(rt, alloc, seed, count, workers, sink, media, gate)
+        }
+        Some(Command::Compare(seed, count, workers)) => {
+            compare_completes::<M>();
+            compare(alloc, seed, count, workers, sink, media)
         }
     }
 }

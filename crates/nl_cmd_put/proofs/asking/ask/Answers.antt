@@ -3,8 +3,8 @@ use Rattle.nl_tree.specs.declared.call.Line.{Line}
 use Rattle.nl_turns.specs.History.{with_lines}
 use Rattle.nl_turns.specs.Served.{IsLineOf}
 use Rattle.nl_volume.specs.contracts.volume.VolumeKept.TheImpl.{ghosts}
-use Rattle.nl_cmd_put.specs.Asking.{entries_from, line_of, lines_from}
-use Rattle.nl_cmd_put.proofs.Asked.{due_here, found, has_more, more_lines}
+use Rattle.nl_cmd_course.specs.Asking.{entries_from, line_of, lines_from}
+use Rattle.nl_cmd_course.proofs.Asked.{answers_here, found, has_more, more_lines}
 use Rattle.nl_cmd_put.proofs.asking.ask.Goals as goal
 
 pub effect-requires : goal.effect-requires
@@ -33,6 +33,6 @@ returns g c = record {
       λ later. record { numbered = omega (arith, at); bounded = c.requires.call; found = (line_of n call, found n 1 asked call later at, refl, refl) } in
       has_more (ghosts g.row.M g.M.Nand g.M.Nand-dict).stands g.M.Nand.tells origin o asked c.args.volume.now c.effect.new.self n call reply at c.requires.call has
       (λ later each. c.effect.ensures.stands origin (with_lines o (lines_from 1 asked ++ line_of n call ∷ later)) (entries_from 1 asked) (has.follows (line_of n call ∷ later) each) (of later))
-      (λ told. due_here o asked (line_of n call ∷ []) call reply
-      (c.effect.ensures.answer told origin (with_lines o (lines_from 1 asked ++ line_of n call ∷ [])) (entries_from 1 asked) (has.follows (line_of n call ∷ []) (more_lines asked n call (omega (arith, at)) has.bounded c.requires.call)) (of [])).0);
+      (λ told. (answers_here o asked (line_of n call ∷ []) call reply c.effect.new.out
+      (c.effect.ensures.answer told origin (with_lines o (lines_from 1 asked ++ line_of n call ∷ [])) (entries_from 1 asked) (has.follows (line_of n call ∷ []) (more_lines asked n call (omega (arith, at)) has.bounded c.requires.call)) (of []))).0);
 }

@@ -8,9 +8,10 @@ use Rattle.nl_spec_image.specs.Stands.{ConsistentAs}
 use Rattle.nl_turns.specs.History.{with_lines}
 use Rattle.nl_volume.specs.Opening.{opening_of}
 use Rattle.nl_cmd_course.proofs.Reading.{stops_from}
-use Rattle.nl_cmd_put.specs.Asking.{course_of, entries_from, lines_from}
+use Rattle.nl_cmd_put.specs.Asking.{course_of}
+use Rattle.nl_cmd_course.specs.Asking.{entries_from, lines_from}
 use Rattle.nl_cmd_put.specs.Phases.{joined}
-use Rattle.nl_cmd_put.proofs.Asked.{all_lines}
+use Rattle.nl_cmd_course.proofs.Asked.{all_lines}
 use Rattle.nl_cmd_put.proofs.Course.{fits_so, runs_put}
 use Rattle.nl_cmd_put.proofs.on_volume.put_file.Goals as goal
 

@@ -6,7 +6,7 @@ use Rattle.nl_tree.specs.declared.reply.Reply.{Reply}
 use Rattle.nl_tree.specs.declared.reply.Reply.TheVariants.{Done, Fault, Synced}
 use Rattle.nl_tree.specs.declared.reply.FaultReply.TheVariants.{Eio}
 use Rattle.nl_put_tree.specs.Examples.{a, own}
-use Rattle.nl_cmd_put.specs.Asking.{Asked}
+use Rattle.nl_cmd_course.specs.Asking.{Asked}
 use Rattle.nl_cmd_put.specs.Examples.{sync_failed}
 use Rattle.nl_cmd_put.proofs.rows.calls_of_a_put.Goals as goal
 

@@ -4,7 +4,7 @@ use Rattle.nl_tree.specs.declared.call.Call.{Call}
 use Rattle.nl_tree.specs.declared.call.Call.TheVariants.{Create, Sync}
 use Rattle.nl_tree.specs.declared.reply.Reply.TheVariants.{Synced}
 use Rattle.nl_spec_headline.specs.Course.{RepliedLine}
-use Rattle.nl_cmd_put.specs.Asking.{line_of}
+use Rattle.nl_cmd_course.specs.Asking.{line_of}
 use Rattle.nl_cmd_put.proofs.rows.durable.Goals as goal
 
 pub returns-clause-within : goal.returns-clause-within

@@ -1,7 +1,7 @@
 use Rattle.std.proofs.Common.{◌∷◌, ◌++◌, [], ℕ, refl, subst}
 use Rattle.nl_volume.specs.contracts.volume.VolumeKept.TheImpl.{ghosts}
 use Rattle.nl_tree.specs.declared.call.Call.TheVariants.{Write}
-use Rattle.nl_cmd_put.specs.Asking.{HasAsked}
+use Rattle.nl_cmd_course.specs.Asking.{HasAsked}
 use Rattle.nl_cmd_put.proofs.Phases.{may_more, writes_piece}
 use Rattle.nl_cmd_put.proofs.writing.write_piece.Goals as goal
 

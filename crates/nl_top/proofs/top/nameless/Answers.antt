@@ -4,12 +4,12 @@ use Rattle.nl_cmd_view.specs.Getting.{GetEnds}
 use Rattle.nl_cmd_words.specs.Command.{HasPath}
 use Rattle.nl_cmd_words.specs.Paths.{path_word}
 use Rattle.nl_cmd_words.specs.declared.command.Command.{Command}
-use Rattle.nl_cmd_words.specs.declared.command.Command.TheVariants.{Check, Format, Get, Map, MapSvg, Put, Report, Run, Soak, Tree}
+use Rattle.nl_cmd_words.specs.declared.command.Command.TheVariants.{Check, Compare, Format, Get, Map, MapSvg, Put, Report, Run, Soak, Tree}
 use Rattle.nl_map.specs.Svg.{map_svg}
 use Rattle.nl_map.specs.Text.{map_text}
 use Rattle.nl_spec_headline.specs.Streams.{medium_seen, sink_seen, source_seen}
 use Rattle.nl_top.specs.Complete.{CarriesOut}
-use Rattle.nl_top.specs.Ends.{MayRefuse, checks, faulty_words, formats, gets, maps, maps_as_picture, puts, reports, runs, shows_tree, soaks}
+use Rattle.nl_top.specs.Ends.{MayRefuse, checks, compares, faulty_words, formats, gets, maps, maps_as_picture, puts, reports, runs, shows_tree, soaks}
 use Rattle.nl_top.specs.Leaving.{leaves_within}
 use Rattle.nl_top.specs.Soak.{Summarises}
 use Rattle.nl_top.proofs.Left.{same_leaves}
@@ -148,7 +148,27 @@ returns-in-Some-Soak-clause-completes g c = λ none.
     c.opening_completes-in-Some-Soak.ensures starts none last c.soak.ensures.ended.0 (Summarises m.tells) (leaves_within m c.args.media c.soak.result.media) c.soak.ensures.ended.2 in
     subst (λ (o : Option Command). CarriesOut o (path_word c.args.words.now) m.tells source old new c.soak.result.order.items c.soak.result.status) (sym (sym c.command_of.ensures.command ∙ c.in-Some-Soak.is ∙ ap Some c.in-Some-Soak.field-0-is)) done
 
+pub returns-in-Some-Compare-clause-ended : goal.returns-in-Some-Compare-clause-ended
+returns-in-Some-Compare-clause-ended g c =
+    compares c.in-Some-Compare.seed c.in-Some-Compare.count c.in-Some-Compare.workers c.compare.ensures.ended.0
+    (sym c.command_of.ensures.command ∙ c.in-Some-Compare.is ∙ ap Some c.in-Some-Compare.field-0-is) refl
+    (same_leaves g.M.Nand c.args.media c.compare.result.media c.compare.ensures.media) c.compare.ensures.ended.1 c.compare.ensures.ended.2
+
+pub returns-in-Some-Compare-clause-completes : goal.returns-in-Some-Compare-clause-completes
+returns-in-Some-Compare-clause-completes g c = λ none.
+    let m = g.M.Nand in
+    let source = source_seen g.S.Source c.args.src.now in
+    let old = medium_seen m c.args.media in
+    let new = medium_seen m c.compare.result.media in
+    let done : CarriesOut (Some (Compare c.in-Some-Compare.seed c.in-Some-Compare.count c.in-Some-Compare.workers)) (path_word c.args.words.now) m.tells source old new c.compare.result.order.items c.compare.result.status =
+    c.compare_completes.ensures c.compare.ensures.ended.0 source source (sink_seen g.K.Sink c.args.sink.now) (sink_seen g.K.Sink c.compare.new.sink) old new c.compare.result.order.items c.compare.result.syncs.items c.compare.result.status c.compare.ensures.ended.2 none in
+    subst (λ (o : Option Command). CarriesOut o (path_word c.args.words.now) m.tells source old new c.compare.result.order.items c.compare.result.status) (sym (sym c.command_of.ensures.command ∙ c.in-Some-Compare.is ∙ ap Some c.in-Some-Compare.field-0-is)) done
+
 -- ---- no refusal of the tree
+
+pub returns-in-Some-Compare-clause-refused : goal.returns-in-Some-Compare-clause-refused
+returns-in-Some-Compare-clause-refused g c =
+    subst (λ (o : Option Command). MayRefuse o c.compare.result.refused) (sym (sym c.command_of.ensures.command ∙ c.in-Some-Compare.is ∙ ap Some c.in-Some-Compare.field-0-is)) c.compare.ensures.refused
 
 pub returns-in-None-clause-refused : goal.returns-in-None-clause-refused
 returns-in-None-clause-refused g c = subst (λ (o : Option Command). MayRefuse o c.ended.result.refused) (sym (sym c.command_of.ensures.command ∙ c.in-None.is)) c.ended.ensures.refused

@@ -6,7 +6,8 @@ use Rattle.std.specs.List.{AllByRecursion, cons_option}
 use Rattle.nl_field.specs.Members.{Has}
 use Rattle.nl_field.specs.declared.shape.Shape.{Shape}
 use Rattle.nl_tree.specs.Calls.{IsBounded, IsLine}
-use Rattle.nl_tree.specs.Replay.{ReplyFits, replay, step_marked}
+use Rattle.nl_tree.specs.Causes.{fault_in}
+use Rattle.nl_tree.specs.Replay.{Answers, replay, step_marked}
 use Rattle.nl_tree.specs.Tree.{Tree}
 use Rattle.nl_tree.specs.declared.call.Call.{Call}
 use Rattle.nl_tree.specs.declared.call.Line.{Line}
@@ -18,7 +19,7 @@ use Rattle.nl_turns.specs.declared.entry.Entry.{Entry}
 use Rattle.nl_volume_stage.specs.Standing.{EachIsLine}
 use Rattle.nl_cmd_course.proofs.Replies.{marked as marked_reply}
 use Rattle.nl_put_tree.specs.Putting.{IsDue, after}
-use Rattle.nl_cmd_put.specs.Asking.{AreDue, Asked, HasAsked, entries_from, line_of, lines_from, marked, tree_after}
+use Rattle.nl_cmd_course.specs.Asking.{AreDue, Asked, HasAsked, entries_from, line_of, lines_from, marked, tree_after}
 
 -- ---- lines
 
@@ -102,10 +103,12 @@ unfolding replay
 due_last shape tree [] call reply due = due.0
 due_last shape tree ((c, r) ∷ asked) call reply due = due_last shape (after shape tree c r) asked call reply due.1
 
-pub due_here : (o : Opening) (asked : Asked) (later : List Line) (call : Call) (reply : Reply)
-    → ReplyFits (outcome_due (with_lines o (lines_from 1 asked ++ later)) (entries_from 1 asked) call reply).reply reply → IsDue o.shape (tree_after o asked) call reply
-due_here o asked later call reply due =
-    subst (λ (x : List (Call × Option FaultReply) × Option FaultReply). ReplyFits (step_marked o.shape (replay o.shape o.tree x.0) (call, x.1)).reply reply)
+-- what the effect of a history is answered, said of the calls
+pub answers_here : (o : Opening) (asked : Asked) (later : List Line) (call : Call) (reply : Reply) (bytes : List ℕ)
+    → Answers (outcome_due (with_lines o (lines_from 1 asked ++ later)) (entries_from 1 asked) call reply) reply bytes
+    → Answers (step_marked o.shape (tree_after o asked) (call, fault_in reply)) reply bytes
+answers_here o asked later call reply bytes due =
+    subst (λ (x : List (Call × Option FaultReply) × Option FaultReply). Answers (step_marked o.shape (replay o.shape o.tree x.0) (call, x.1)) reply bytes)
     (λ k. (calls_are (with_lines o (lines_from 1 asked ++ later)) 1 asked (omega arith) (knows 1 asked later) k, marked_reply reply k)) due
 
 -- ---- one more

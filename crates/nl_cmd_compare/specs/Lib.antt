@@ -1,0 +1,4 @@
+pub mod Both
+pub mod Complete
+pub mod Ends
+pub mod Quiet
