@@ -12,7 +12,7 @@ use Rattle.nl_turns.specs.declared.entry.Entry.{Entry}
 use Rattle.nl_volume.specs.declared.volume.Volume.{Volume}
 use Rattle.nl_cmd_course.specs.Asking.{Asked, HasAsked, marked}
 use Rattle.nl_pagemap.specs.declared.pagemap.Pagemap.{Pagemap}
-use Rattle.nl_pagemap_volume.specs.Volume.{IsNewVolume, Shows, Stands}
+use Rattle.nl_pagemap_volume.specs.Volume.{IsNewVolume, IsWritable, Shows, Stands, shape_in}
 use Rattle.nl_pagemap_volume.specs.declared.volume.MapVolume.{MapVolume}
 use Rattle.nl_cmd_compare.specs.declared.comparison.Comparison.{Comparison}
 use Rattle.nl_cmd_compare.specs.declared.comparison.Replies.{Replies}
@@ -53,8 +53,8 @@ module _ {M : Type 0} (stands : Volume M → Opening → List Entry → Volume M
   pub record IsComparison (shape : Shape) (calls : List Call) (c : Comparison M) : Type 0 where
     pub answered : HasAnswered stands tells shape calls c.volume
     pub stands : Stands g c.map
-    pub writes : c.map.core.stopped ≡ 0
-    pub same_shape : g.shape c.map.core.device ≡ shape
+    pub writes : IsWritable c.map
+    pub same_shape : shape_in g c.map ≡ shape
     pub shows : tells → Shows g c.map (tree_of shape calls)
     pub counted : c.numbers.calls ≡ length calls
     pub few : tells → c.numbers.pairs ≤ 4 * shape.pages

@@ -77,20 +77,49 @@ Shows g v tree = (page_of_stamp : ℕ → Option PageOfStamp) × CoreRepresentsT
 abbrev pub awaiting : {M : Type 0} → MapVolume M → ℕ
 awaiting v = length v.core.freeing.items
 
+-- the device that it runs over
+abbrev pub device_of : {M : Type 0} → MapVolume M → Pagemap M
+device_of v = v.core.device
+
+-- its numbers
+abbrev pub shape_in : {M : Type 0} → Ghosts (Pagemap M) → MapVolume M → Shape
+shape_in g v = g.shape (device_of v)
+
+-- how many calls it has answered
+abbrev pub calls_of : {M : Type 0} → MapVolume M → ℕ
+calls_of v = v.core.count
+
+-- It can be written to.
+abbrev pub IsWritable : {M : Type 0} → MapVolume M → Type 0
+IsWritable v = v.core.stopped ≡ 0
+
+-- what refuses a call before it is tried: the volume is read-only, or its write sequence numbers are used up
+abbrev pub refusing_in : {M : Type 0} → Ghosts (Pagemap M) → MapVolume M → FaultState
+refusing_in g v = refusing g v.core
+
 -- the counts of its medium, as its device shows them
 abbrev pub counts_in : {M : Type 0} → Ghosts (Pagemap M) → MapVolume M → Counts
-counts_in g v = counts_of g v.core.device
+counts_in g v = counts_of g (device_of v)
 
 -- what the call does to a tree of the volume, with the fault of the reply if it is one
 abbrev pub outcome_on : {M : Type 0} → Ghosts (Pagemap M) → MapVolume M → Tree → Call → Reply → Outcome
-outcome_on g v tree call reply = step_marked (g.shape v.core.device) tree (call, fault_in reply)
+outcome_on g v tree call reply = step_marked (shape_in g v) tree (call, fault_in reply)
+
+-- Once such a call is done and its reply is no fault, no page awaits its free: where the medium tells its contents, no count of faults rose,
+-- the volume could be written to, and the write sequence numbers are not used up.
+abbrev pub LeavesNoneAwaiting : {M : Type 0} → Ghosts (Pagemap M) → MapVolume M → MapVolume M → Reply → Type 0
+LeavesNoneAwaiting g old new reply = FreesAll g old.core new.core reply
+
+-- From the first failed program or erase on it is read-only, and stays so with the faults that were counted then.
+abbrev pub StopsWriting : {M : Type 0} → Ghosts (Pagemap M) → MapVolume M → MapVolume M → Type 0
+StopsWriting g old new = TurnsReadOnly g old.core new.core
 
 -- The volume has these numbers. It shows the tree with only the root, it has answered no call, it can be written to, no page awaits its
 -- free, and at most two write sequence numbers were given.
 pub record IsNewVolume {M : Type 0} (g : Ghosts (Pagemap M)) (shape : Shape) (v : MapVolume M) : Type 0 where
-  pub same_shape : g.shape v.core.device ≡ shape
+  pub same_shape : shape_in g v ≡ shape
   pub shows : g.tells → Shows g v empty_tree
-  pub calls : v.core.count ≡ 0
-  pub writes : v.core.stopped ≡ 0
+  pub calls : calls_of v ≡ 0
+  pub writes : IsWritable v
   pub none_awaits : awaiting v ≡ 0
-  pub stamps : g.next_stamp v.core.device ≤ 3
+  pub stamps : g.next_stamp (device_of v) ≤ 3

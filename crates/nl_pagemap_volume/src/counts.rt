@@ -1,6 +1,6 @@
 //! What the volume tells of failures of its device, and whether its write sequence numbers are used up.
 ghost use Rattle.std.specs.Prelude.{◌≡◌, ◌≤◌, ◌↔◌, ◌^◌, IsTrue};
-ghost use Rattle.nl_pagemap_volume.specs.Volume.{counts_in};
+ghost use Rattle.nl_pagemap_volume.specs.Volume.{counts_in, device_of};
 
 use crate::volume::MapVolume;
 use nl_iface::{Counts, MovingPages};
@@ -24,7 +24,7 @@ impl<M: Nand> MapVolume<M> {
 
     /// Whether its write sequence numbers are used up: the next one has reached 2^62.
     pub fn is_worn(&self) -> bool
-        ensures { IsTrue result ↔ 2 ^ 62 ≤ ⟦<Pagemap<M> as Counts>⟧.next_stamp self.now.core.device }
+        ensures { IsTrue result ↔ 2 ^ 62 ≤ ⟦<Pagemap<M> as Counts>⟧.next_stamp (device_of self.now) }
     {
         self.core.device.next_stamp() >= 1 << 62
     }

@@ -1,14 +1,14 @@
 //! The volume: it is made on a medium that holds nothing, does calls, and gives its medium back.
 ghost use Rattle.std.specs.Prelude.{◌≡◌, ◌+◌, ◌<◌, ◌&&◌, IfOk, is_none};
 ghost use Rattle.nl_calls.specs.Answering.{is_sync_call, is_synced};
-ghost use Rattle.nl_core.specs.Goes.{TurnsReadOnly};
 ghost use Rattle.nl_field.specs.CrashStates.{saturated, top};
 ghost use Rattle.nl_field.specs.Numbers.{ShapeBounds};
 ghost use Rattle.nl_iface.specs.Device.{IsVolumeShape};
 ghost use Rattle.nl_nand.specs.Nand.{IsBlank};
 ghost use Rattle.nl_pagemap.specs.Cleaning.{medium_of};
 ghost use Rattle.nl_pagemap_volume.specs.Serving.{StampsPaid};
-ghost use Rattle.nl_pagemap_volume.specs.Volume.{FreesAll, IsNewVolume, Shows, Stands, TellsCount, awaiting, counts_in, outcome_on, refusing};
+ghost use Rattle.nl_pagemap_volume.specs.Volume.{IsNewVolume, LeavesNoneAwaiting, Shows, Stands, StopsWriting, TellsCount, awaiting, calls_of, counts_in, device_of, outcome_on,
+    refusing_in, shape_in};
 ghost use Rattle.nl_tree.specs.Calls.{IsBounded};
 ghost use Rattle.nl_tree.specs.Causes.{FaultIsDue, NeverFall, fault_in};
 ghost use Rattle.nl_tree.specs.Charges.{data_charge};
@@ -39,8 +39,8 @@ pub struct MapVolume<M: Nand> {
 }
 
 impl<M: Nand> MapVolume<M> {
-    /// A volume on a medium whose pages are all erased. It shows the tree with only the root. The medium comes back for want of memory, or
-    /// where a read or a write of it failed.
+    /// A volume on a medium whose pages are all erased. It shows the tree with only the root. The medium comes back for want of memory,
+    /// where a read or a write of it failed, or where what is read again is no such volume.
     pub fn make(alloc: Global, media: M, shape: Shape) -> Result<MapVolume<M>, M>
         requires volume { IsVolumeShape shape }
         requires bounds { ShapeBounds shape }
@@ -72,16 +72,16 @@ impl<M: Nand> MapVolume<M> {
             → Answers (outcome_on ⟦<Pagemap<M> as Counts>⟧ self.old tree call.now result) result out.new }
         ensures goes_on { M.tells → (tree : Tree) → Shows ⟦<Pagemap<M> as Counts>⟧ self.old tree
             → Shows ⟦<Pagemap<M> as Counts>⟧ self.new (outcome_on ⟦<Pagemap<M> as Counts>⟧ self.old tree call.now result).tree }
-        ensures cause { FaultIsDue M.tells (refusing ⟦<Pagemap<M> as Counts>⟧ self.old.core) (counts_in ⟦<Pagemap<M> as Counts>⟧ self.old)
+        ensures cause { FaultIsDue M.tells (refusing_in ⟦<Pagemap<M> as Counts>⟧ self.old) (counts_in ⟦<Pagemap<M> as Counts>⟧ self.old)
             (counts_in ⟦<Pagemap<M> as Counts>⟧ self.new) call.now result }
         ensures synced { is_synced result ≡ (is_sync_call call.now && is_none (fault_in result)) }
-        ensures upto { TellsCount self.old.core.count result }
-        ensures calls { self.new.core.count ≡ saturated (self.old.core.count + 1) }
-        ensures freed { FreesAll ⟦<Pagemap<M> as Counts>⟧ self.old.core self.new.core result }
+        ensures upto { TellsCount (calls_of self.old) result }
+        ensures calls { calls_of self.new ≡ saturated (calls_of self.old + 1) }
+        ensures freed { LeavesNoneAwaiting ⟦<Pagemap<M> as Counts>⟧ self.old self.new result }
         ensures counts { NeverFall (counts_in ⟦<Pagemap<M> as Counts>⟧ self.old) (counts_in ⟦<Pagemap<M> as Counts>⟧ self.new) }
-        ensures same_shape { ⟦<Pagemap<M> as Counts>⟧.shape self.new.core.device ≡ ⟦<Pagemap<M> as Counts>⟧.shape self.old.core.device }
-        ensures stops { TurnsReadOnly ⟦<Pagemap<M> as Counts>⟧ self.old.core self.new.core }
-        ensures stamps { StampsPaid ⟦<Pagemap<M> as Counts>⟧ self.old.core.device self.new.core.device }
+        ensures same_shape { shape_in ⟦<Pagemap<M> as Counts>⟧ self.new ≡ shape_in ⟦<Pagemap<M> as Counts>⟧ self.old }
+        ensures stops { StopsWriting ⟦<Pagemap<M> as Counts>⟧ self.old self.new }
+        ensures stamps { StampsPaid ⟦<Pagemap<M> as Counts>⟧ (device_of self.old) (device_of self.new) }
     {
         let Answer { reply, files } = answer(
             &mut self.core,
@@ -99,7 +99,7 @@ impl<M: Nand> MapVolume<M> {
     /// How many numbers are in use on the device: one for each page that the files of its tree take, and one for each that awaits its free.
     pub fn entries(&self) -> u32
         requires stands { Stands ⟦<Pagemap<M> as Counts>⟧ self.now }
-        ensures live { result ≡ (⟦<Pagemap<M> as Counts>⟧.names self.now.core.device).space.live }
+        ensures live { result ≡ (⟦<Pagemap<M> as Counts>⟧.names (device_of self.now)).space.live }
         ensures charged { M.tells → (tree : Tree) → Shows ⟦<Pagemap<M> as Counts>⟧ self.now tree
             → result ≡ data_charge tree + awaiting self.now }
     {
@@ -109,14 +109,14 @@ impl<M: Nand> MapVolume<M> {
 
     /// How many calls it has answered.
     pub fn calls(&self) -> u64
-        ensures { result ≡ self.now.core.count }
+        ensures { result ≡ calls_of self.now }
     {
         self.core.count
     }
 
     /// Gives the medium back.
     pub fn into_media(self) -> M
-        ensures { result ≡ medium_of self.core.device }
+        ensures { result ≡ medium_of (device_of self) }
     {
         let MapVolume { core, page, .. } = self;
         drop(page);
