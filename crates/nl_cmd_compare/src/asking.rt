@@ -11,12 +11,7 @@ use nl_turns::Kept;
 use nl_volume::Volume;
 
 /// Has a volume answer a call under a number, by its effect alone.
-pub fn ask<M: Nand>(
-    volume: &mut Volume<M>,
-    number: u32,
-    call: &Call,
-    out: &mut ReplyBuf,
-) -> Reply
+pub fn ask<M: Nand>(volume: &mut Volume<M>, number: u32, call: &Call, out: &mut ReplyBuf) -> Reply
     requires may { MayAsk ⟦<Volume<M> as Kept>⟧.stands M.tells number volume.old }
     requires call { IsBounded call.now }
     ensures asked { FromEachAsked ⟦<Volume<M> as Kept>⟧.stands M.tells number volume.old

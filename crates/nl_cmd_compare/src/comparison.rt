@@ -103,11 +103,7 @@ impl<M: Nand> Comparison<M> {
 }
 
 // Has the volume with a map answer a call, where nothing fails.
-fn step_quietly<M: Nand>(
-    map: &mut MapVolume<M>,
-    call: &Call,
-    out: &mut ReplyBuf,
-) -> Option<Reply>
+fn step_quietly<M: Nand>(map: &mut MapVolume<M>, call: &Call, out: &mut ReplyBuf) -> Option<Reply>
     requires stands { Stands ⟦<Pagemap<M> as Counts>⟧ map.old }
     requires bounded { IsBounded call.now }
     ensures stands { Stands ⟦<Pagemap<M> as Counts>⟧ map.new }
