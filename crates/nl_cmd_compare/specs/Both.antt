@@ -52,7 +52,7 @@ module _ {M : Type 0} (stands : Volume M → Opening → List Entry → Volume M
   -- the pages of a block, and the entries were as many as the greatest data charge of the trees.
   pub record IsComparison (shape : Shape) (calls : List Call) (c : Comparison M) : Type 0 where
     pub answered : HasAnswered stands tells shape calls c.volume
-    pub stands : Stands g c.map
+    pub map_stands : Stands g c.map
     pub writes : IsWritable c.map
     pub same_shape : shape_in g c.map ≡ shape
     pub shows : tells → Shows g c.map (tree_of shape calls)
