@@ -1,6 +1,7 @@
 pub mod Both
 pub mod Completing
+pub mod Ending
 pub mod Lines
-pub mod Numbers
 pub mod Quiet
+pub mod Shapes
 pub mod Stepping

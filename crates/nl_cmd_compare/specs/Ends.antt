@@ -22,7 +22,7 @@ pub record Measures (shape : Shape) (calls : List Call) (numbers : Numbers) : Ty
 
 -- the lines of the two tables
 abbrev pub tables_text : Numbers → List ℕ
-tables_text numbers = (field (codes "remap most") numbers.pairs ++ 10 ∷ []) ++ field (codes "map most") numbers.entries ++ 10 ∷ []
+tables_text numbers = (field (codes "remap most") numbers.pairs ++ 10 ∷ []) ++ (field (codes "map most") numbers.entries ++ 10 ∷ [])
 
 abbrev pub compare_text : Numbers → List ℕ
 compare_text numbers = (field (codes "calls") numbers.calls ++ 10 ∷ []) ++ tables_text numbers

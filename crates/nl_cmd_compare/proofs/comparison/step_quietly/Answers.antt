@@ -1,8 +1,8 @@
-use Rattle.std.proofs.Common.{◌≡◌, ◌∙◌, ◌×◌, ℕ, inl, inr, length, ap, None, Option, subst, sym, absurd, Bool, true, false, IsTrue, ◌<◌, ⊥, ◌^◌, arith}
-use Rattle.std.proofs.Math.Nat.{eq-zero-or-pos, lt_of_not-le}
+use Rattle.std.proofs.Common.{◌≡◌, ◌∙◌, ℕ, length, ap, None, Option, subst, sym}
+use Rattle.std.proofs.Math.Nat.{lt_of_not-le}
 use Rattle.nl_field.specs.CrashStates.{Rose}
 use Rattle.nl_pagemap.specs.contracts.counts.PagemapCounts.TheImpl.{ghosts}
-use Rattle.nl_tree.specs.Causes.{FaultRose, fault_in}
+use Rattle.nl_tree.specs.Causes.{fault_in}
 use Rattle.nl_tree.specs.Replay.{Answers, step_marked}
 use Rattle.nl_tree.specs.declared.reply.FaultReply.{FaultReply}
 use Rattle.nl_pagemap_volume.specs.Volume.{Shows, counts_in, shape_in}

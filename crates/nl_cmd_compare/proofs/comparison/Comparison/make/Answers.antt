@@ -1,7 +1,9 @@
 use Rattle.std.proofs.Common.{◌*◌, ◌≤◌, refl, arith}
+use Rattle.nl_tree.specs.Replay.{replay}
 use Rattle.nl_cmd_compare.proofs.comparison.Comparison.make.Goals as goal
 
 pub returns-in-Ok : goal.returns-in-Ok
+unfolding replay
 returns-in-Ok g c =
     let m = c.in_ok-map.ensures in
     record {

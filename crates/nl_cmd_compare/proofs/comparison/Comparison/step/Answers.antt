@@ -1,5 +1,4 @@
 use Rattle.std.proofs.Common.{◌≡◌, ◌∙◌, ◌≤◌, ◌+◌, ◌*◌, ◌++◌, ◌∷◌, [], ℕ, None, length, subst, sym, ap, arith}
-use Rattle.nl_device.specs.contracts.counts.DeviceCounts.TheImpl.{ghosts as device}
 use Rattle.nl_field.specs.declared.shape.Shape.{Shape}
 use Rattle.nl_pagemap.specs.contracts.counts.PagemapCounts.TheImpl.{ghosts as mapped}
 use Rattle.nl_tree.specs.Causes.{fault_in}
@@ -43,6 +42,8 @@ returns-clause-goes_on g c = λ shape calls is.
     let stood = has.follows [] (all_lines asked has.bounded) in
     let q = c.in_ok-map.ensures.goes_on in
     let new = c.step_quietly.new.map in
+    let none_awaits : tells → data_charge (tree_of shape (calls ++ call ∷ [])) + awaiting new ≡ data_charge (tree_of shape (calls ++ call ∷ [])) =
+    λ t. (let none = q.none_awaits t is.writes in omega (arith, none)) in
     let after : tells → Shows G new (tree_of shape (calls ++ call ∷ [])) =
     λ t. subst (λ (tree : Tree). Shows G new tree) (ap (λ (h : Shape). (step_marked h (tree_of shape calls) (call, None)).tree) is.same_shape ∙ sym (tree_more shape calls call)) (q.goes_on t (tree_of shape calls) (is.shows t)) in
     record {
@@ -56,7 +57,7 @@ returns-clause-goes_on g c = λ shape calls is.
           (subst (λ (h : Shape). c.pairs.result ≤ 4 * h.pages) (stood.0.serves.along.shape ∙ a.same_shape t) c.pairs.ensures.few) c.greater.ensures;
       most = λ t. most_on shape calls call c.args.self.now.numbers.entries c.entries.result c.greater-2.result (is.most t)
           (c.entries.ensures.charged t (tree_of shape (calls ++ call ∷ [])) (after t)
-          ∙ (let none = q.none_awaits t is.writes in omega (arith, none) : data_charge (tree_of shape (calls ++ call ∷ [])) + awaiting new ≡ data_charge (tree_of shape (calls ++ call ∷ []))))
+          ∙ none_awaits t)
           c.greater-2.ensures;
     }
 
