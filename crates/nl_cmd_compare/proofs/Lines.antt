@@ -1,6 +1,6 @@
 -- One line more of a script that was played so far.
-use Rattle.std.proofs.Common.{◌≡◌, ℕ, zero, suc, List, [], ◌∷◌, ◌++◌, ◌+◌, map, take, length, slice_get, Bool, false, Option, Some, None, refl, sym, ap, ◌∙◌, arith}
-use Rattle.std.specs.Prelude.{IfSome, is_none}
+use Rattle.std.proofs.Common.{◌≡◌, ℕ, zero, suc, List, [], ◌∷◌, ◌++◌, ◌+◌, map, take, length, slice_get, Bool, true, Option, Some, None, refl, sym, ap, ◌∙◌, arith}
+use Rattle.std.specs.Prelude.{IfSome, is_some}
 use Rattle.nl_tree.specs.declared.call.Call.{Call}
 use Rattle.nl_tree.specs.declared.call.Line.{Line}
 
@@ -21,6 +21,6 @@ all_calls (l ∷ lines) zero is = absurd (cc is)
 all_calls (l ∷ lines) (suc at) is = ap (λ (cs : List Call). l.call ∷ cs) (all_calls lines at (omega (arith, is)))
 
 -- what holds wherever an answer is there
-pub if_there : {A : Type 0} (o : Option A) (P : Type 0) → is_none o ≡ false → IfSome o (λ r. P) → P
+pub if_there : {A : Type 0} (o : Option A) (P : Type 0) → is_some o ≡ true → IfSome o (λ r. P) → P
 if_there None P is there = absurd (cc is)
 if_there (Some r) P is there = there

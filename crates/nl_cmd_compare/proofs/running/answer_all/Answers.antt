@@ -1,4 +1,4 @@
-use Rattle.std.proofs.Common.{◌≡◌, ◌∙◌, ◌++◌, ◌∷◌, [], List, map, subst, suc, sym, take, arith}
+use Rattle.std.proofs.Common.{◌≡◌, ◌∙◌, ◌++◌, ◌∷◌, [], List, ap, map, not, subst, suc, sym, take, arith}
 use Rattle.nl_field.specs.declared.shape.Shape.{Shape}
 use Rattle.nl_pagemap.specs.contracts.counts.PagemapCounts.TheImpl.{ghosts as mapped}
 use Rattle.nl_tree.specs.declared.call.Call.{Call}
@@ -21,7 +21,7 @@ lines-preserved g c = λ shape is.
     let before = map (λ (x : Line). x.call) (take c.lines.at c.args.lines.now) in
     let goes_on = if_there c.step.result
         ((shape : Shape) (calls : List Call) → IsComparison V.stands G g.M.Nand.tells shape calls c.lines.both → IsComparison V.stands G g.M.Nand.tells shape (calls ++ line.call ∷ []) c.step.new.self)
-        (sym c.is_none.ensures ∙ c.if-is_none.false) c.step.ensures.goes_on in
+        (c.is_none.ensures ∙ ap not c.if-is_none.false) c.step.ensures.goes_on in
     subst (λ (calls : List Call). IsComparison V.stands G g.M.Nand.tells shape calls c.step.new.self)
     (sym (calls_to c.args.lines.now c.lines.at line c.get.ensures.line))
     (goes_on shape before (c.lines.invariant shape is))
