@@ -1,6 +1,5 @@
 // The words of the command line.
-use std::env;
-use std::io;
+use std::{env, io};
 
 /// What is to be compared.
 #[derive(Drop)]

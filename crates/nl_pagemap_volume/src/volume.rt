@@ -7,8 +7,21 @@ ghost use Rattle.nl_iface.specs.Device.{IsVolumeShape};
 ghost use Rattle.nl_nand.specs.Nand.{IsBlank};
 ghost use Rattle.nl_pagemap.specs.Cleaning.{medium_of};
 ghost use Rattle.nl_pagemap_volume.specs.Serving.{StampsPaid};
-ghost use Rattle.nl_pagemap_volume.specs.Volume.{IsNewVolume, LeavesNoneAwaiting, Shows, Stands, StopsWriting, TellsCount, awaiting, calls_of, counts_in, device_of, outcome_on,
-    refusing_in, shape_in};
+ghost use Rattle.nl_pagemap_volume.specs.Volume.{
+  IsNewVolume,
+  LeavesNoneAwaiting,
+  Shows,
+  Stands,
+  StopsWriting,
+  TellsCount,
+  awaiting,
+  calls_of,
+  counts_in,
+  device_of,
+  outcome_on,
+  refusing_in,
+  shape_in,
+};
 ghost use Rattle.nl_tree.specs.Calls.{IsBounded};
 ghost use Rattle.nl_tree.specs.Causes.{FaultIsDue, NeverFall, fault_in};
 ghost use Rattle.nl_tree.specs.Charges.{data_charge};

@@ -17,8 +17,8 @@ returns-in-Ok g c =
     let image = N.contents media in
     let sound : N.tells → ConsistentAs image v.core.count empty_tree =
     λ t. subst (λ (n : ℕ). ConsistentAs image n empty_tree)
-        (sym (c.represents_one.ensures image v.core.count 0 e.opened.tree empty_tree (e.opened.opens t).sound.stands (c.in-Done.ensures.stands t).stands).0)
-        (c.in-Done.ensures.stands t) in
+    (sym (c.represents_one.ensures image v.core.count 0 e.opened.tree empty_tree (e.opened.opens t).sound.stands (c.in-Done.ensures.stands t).stands).0)
+    (c.in-Done.ensures.stands t) in
     record {
       origin = v;
       opening = opening_of G v.core empty_tree [];

@@ -20,8 +20,8 @@ lines-preserved g c = λ shape is.
     let line = c.get.result.now in
     let before = map (λ (x : Line). x.call) (take c.lines.at c.args.lines.now) in
     let goes_on = if_there c.step.result
-        ((shape : Shape) (calls : List Call) → IsComparison V.stands G g.M.Nand.tells shape calls c.lines.both → IsComparison V.stands G g.M.Nand.tells shape (calls ++ line.call ∷ []) c.step.new.self)
-        (c.is_none.ensures ∙ ap not c.if-is_none.false) c.step.ensures.goes_on in
+    ((shape : Shape) (calls : List Call) → IsComparison V.stands G g.M.Nand.tells shape calls c.lines.both → IsComparison V.stands G g.M.Nand.tells shape (calls ++ line.call ∷ []) c.step.new.self)
+    (c.is_none.ensures ∙ ap not c.if-is_none.false) c.step.ensures.goes_on in
     subst (λ (calls : List Call). IsComparison V.stands G g.M.Nand.tells shape calls c.step.new.self)
     (sym (calls_to c.args.lines.now c.lines.at line c.get.ensures.line))
     (goes_on shape before (c.lines.invariant shape is))

@@ -11,4 +11,4 @@ invariant-lines g l =
     (shape : Shape)
     → IsComparison (kept g.row.M g.M.Nand g.M.Nand-dict).stands (mapped g.row.M g.M.Nand g.M.Nand-dict) g.M.Nand.tells shape [] l.initial.both
     → IsComparison (kept g.row.M g.M.Nand g.M.Nand-dict).stands (mapped g.row.M g.M.Nand g.M.Nand-dict) g.M.Nand.tells shape
-      (map (λ (x : Line). x.call) (take l.at l.lines)) l.both
+    (map (λ (x : Line). x.call) (take l.at l.lines)) l.both

@@ -70,7 +70,7 @@ returns-clause-answers g c = λ t shape calls is.
     let quiet : fault_in c.ask-volume.result ≡ None = none_of (fault_in c.ask-volume.result) (sym c.is_fault.ensures ∙ c.if-is_fault.false) in
     let q = c.in_ok-map.ensures.goes_on in (
       due_on V.stands tells shape calls c.args.self.now.volume call c.ask-volume.result quiet a t c.ask-volume.new.out
-      (c.ask-volume.ensures.answers t a.origin a.opening a.asked a.has (omega (arith, a.count, is.counted))),
+          (c.ask-volume.ensures.answers t a.origin a.opening a.asked a.has (omega (arith, a.count, is.counted))),
       subst (λ (h : Shape). Answers (step_marked h (tree_of shape calls) (call, None)) c.in_ok-map.map c.step_quietly.new.out) is.same_shape (q.answers t (tree_of shape calls) (is.shows t)),
     )
 
