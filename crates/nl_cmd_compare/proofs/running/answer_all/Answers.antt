@@ -5,7 +5,7 @@ use Rattle.nl_tree.specs.declared.call.Call.{Call}
 use Rattle.nl_tree.specs.declared.call.Line.{Line}
 use Rattle.nl_volume.specs.contracts.volume.VolumeKept.TheImpl.{ghosts as kept}
 use Rattle.nl_cmd_compare.specs.Both.{IsComparison}
-use Rattle.nl_cmd_compare.proofs.Lines.{all_calls, calls_to, if_there}
+use Rattle.nl_cmd_compare.proofs.Lines.{all_calls, calls_on, if_there}
 use Rattle.nl_cmd_compare.proofs.running.answer_all.Goals as goal
 
 pub step-requires-clause-compares : goal.step-requires-clause-compares
@@ -23,7 +23,7 @@ lines-preserved g c = λ shape is.
     ((shape : Shape) (calls : List Call) → IsComparison V.stands G g.M.Nand.tells shape calls c.lines.both → IsComparison V.stands G g.M.Nand.tells shape (calls ++ line.call ∷ []) c.step.new.self)
     (c.is_none.ensures ∙ ap not c.if-is_none.false) c.step.ensures.goes_on in
     subst (λ (calls : List Call). IsComparison V.stands G g.M.Nand.tells shape calls c.step.new.self)
-    (sym (calls_to c.args.lines.now c.lines.at line c.get.ensures.line))
+    (sym (calls_on c.args.lines.now c.lines.at line c.get.ensures.line))
     (goes_on shape before (c.lines.invariant shape is))
 
 pub returns : goal.returns
