@@ -8,7 +8,7 @@ use nl_cmd_words::drawn_lines;
 use nl_field::{FailList, shape_of};
 use nl_iface::Counts;
 use nl_io::{Sink, SinkAnswer};
-use nl_nand::MemNand;
+use nl_nand::{MemNand, Nand};
 use nl_pagemap::Pagemap;
 use nl_print::number_line;
 use nl_tree::Lines;
@@ -66,13 +66,13 @@ fn is_told(at: u32, len: u32, every: u32) -> bool {
 }
 
 // Has both answer each line.
-fn answer_lines<K: Sink>(
-    both: &mut Comparison<MemNand>,
+fn answer_lines<K: Sink, M: Nand>(
+    both: &mut Comparison<M>,
     lines: &Lines,
     every: u32,
     sink: &mut K,
 ) -> Ended
-    requires runs { AreFrom ⟦<Volume<MemNand> as Kept>⟧.stands ⟦<Pagemap<MemNand> as Counts>⟧ ⟦<MemNand as nl_nand::Nand>⟧.tells both.old }
+    requires runs { AreFrom ⟦<Volume<M> as Kept>⟧.stands ⟦<Pagemap<M> as Counts>⟧ M.tells both.old }
 {
     for at in 0..lines.len() {
         if both.step(&lines.get(at).call).is_none() {

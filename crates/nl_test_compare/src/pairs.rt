@@ -18,8 +18,12 @@ fn unformed(alloc: Global) -> MemNand {
 }
 
 // The most pairs that a volume has behind each of the lines.
-fn most_pairs(alloc: Global, volume: &mut Volume<MemNand>, lines: &Lines) -> Result<u32, Memory>
-    requires { HasAnswered ⟦<Volume<MemNand> as Kept>⟧.stands ⟦<MemNand as Nand>⟧.tells (shape_for 32 32) [] volume.old }
+fn most_pairs<M: Nand>(
+    alloc: Global,
+    volume: &mut Volume<M>,
+    lines: &Lines,
+) -> Result<u32, Memory>
+    requires { HasAnswered ⟦<Volume<M> as Kept>⟧.stands M.tells (shape_for 32 32) [] volume.old }
 {
     let mut out = ReplyBuf::new(alloc)?;
     let mut most = 0u32;
