@@ -116,7 +116,7 @@ module _ {tells : Type 0} {leaves leaves' : Leaving → Type 0} (by : (l : Leavi
   ends_by words (gets path is at same kept ends) = gets path is at same (by nothing_new kept) ends
   ends_by words (puts path is at ends) = puts path is at (put_by path ends)
   ends_by words (soaks seed count workers lines is same drawn ends) = soaks seed count workers lines is same drawn (ran_by lines (Summarises tells) ends)
-  ends_by words (compares seed count workers lines is same none drawn ends) = compares seed count workers lines is same none drawn ends
+  ends_by words (compares seed count workers lines is same kept drawn ends) = compares seed count workers lines is same (by nothing_new kept) drawn ends
 
 -- of the command alone that forms the medium
 not_forming : {o : Option Command} {command : Command} → forms o ≡ true → o ≡ Some command → forms (Some command) ≡ false → ⊥
@@ -135,7 +135,7 @@ module _ {tells : Type 0} {leaves leaves' : Leaving → Type 0} (by : leaves new
   forming_by (gets path is at same kept ends) = absurd (not_forming is_format is refl)
   forming_by (puts path is at ends) = absurd (not_forming is_format is refl)
   forming_by (soaks seed count workers lines is same drawn ends) = absurd (not_forming is_format is refl)
-  forming_by (compares seed count workers lines is same none drawn ends) = absurd (not_forming is_format is refl)
+  forming_by (compares seed count workers lines is same kept drawn ends) = absurd (not_forming is_format is refl)
 
 -- ---- faulty words
 
@@ -161,7 +161,7 @@ module _ {tells : Type 0} {words : List (List ℕ)} {leaves : Leaving → Type 0
   told_faulty (gets path is at same kept ends) = absurd (not_both none is)
   told_faulty (puts path is at ends) = absurd (not_both none is)
   told_faulty (soaks seed count workers lines is same drawn ends) = absurd (not_both none is)
-  told_faulty (compares seed count workers lines is same none drawn ends) = absurd (not_both none is)
+  told_faulty (compares seed count workers lines is same kept drawn ends) = absurd (not_both none is)
 
 -- nothing was done before a line, and the medium is one that stays
 stays : {tells : Type 0} {sink sink' : Stream} (m : Medium) → Prints sink sink' (codes "words\n") → EndsBefore tells (codes "words\n") sink sink' m m [] []
