@@ -1,5 +1,5 @@
 // The same soak line after line on a volume of its own, whose pairs are looked at behind each, and on both volumes of a comparison.
-ghost use Rattle.std.specs.Prelude.{◌≡◌, [], IfOk};
+ghost use Rattle.std.specs.Prelude.{◌<◌, ◌≤◌, []};
 ghost use Rattle.nl_cmd_compare.specs.Both.{HasAnswered};
 ghost use Rattle.nl_field.specs.Numbers.{shape_for};
 
@@ -18,11 +18,7 @@ fn unformed(alloc: Global) -> MemNand {
 }
 
 // The most pairs that a volume has behind each of the lines.
-fn most_pairs<M: Nand>(
-    alloc: Global,
-    volume: &mut Volume<M>,
-    lines: &Lines,
-) -> Result<u32, Memory>
+fn most_pairs<M: Nand>(alloc: Global, volume: &mut Volume<M>, lines: &Lines) -> Result<u32, Memory>
     requires { HasAnswered ⟦<Volume<M> as Kept>⟧.stands M.tells (shape_for 32 32) [] volume.old }
 {
     let mut out = ReplyBuf::new(alloc)?;
@@ -52,7 +48,9 @@ fn compared(alloc: Global, lines: &Lines) -> Result<Option<Numbers>, Memory> {
 }
 
 // Whether both tell the same number of pairs, which is this one, on the soak of a seed.
-fn agree(alloc: Global, seed: u64, count: u32, pairs: u32) -> Result<bool, Memory> {
+fn agree(alloc: Global, seed: u64, count: u32, pairs: u32) -> Result<bool, Memory>
+    requires { (0 < count) × (count ≤ 20000) }
+{
     let Some(lines) = drawn_lines(alloc, seed, count, 8) else {
         return Err(Memory);
     };

@@ -4,9 +4,6 @@ use Rattle.nl_cmd_course.specs.Asking.{entries_from, lines_from}
 use Rattle.nl_cmd_course.proofs.Asked.{all_lines, length_more}
 use Rattle.nl_test_compare.proofs.pairs.most_pairs.Goals as goal
 
-pub lines-established : goal.lines-established
-lines-established g c = let a = c.requires in (a.origin, a.opening, a.asked, a.has, a.count)
-
 pub ask-requires-clause-may : goal.ask-requires-clause-may
 ask-requires-clause-may g c =
     let i = c.lines.invariant in
