@@ -17,6 +17,6 @@ loop-at-preserved g c =
     let call = c.get.result.now.call in
     let from = c.loop-at.invariant in
     let goes_on = if_there c.step.result
-        ((shape : Shape) (calls : List Call) → IsComparison V.stands G g.M.Nand.tells shape calls c.loop-at.both → IsComparison V.stands G g.M.Nand.tells shape (calls ++ call ∷ []) c.step.new.self)
-        (c.is_none.ensures ∙ ap not c.if-is_none.false) c.step.ensures.goes_on in
+    ((shape : Shape) (calls : List Call) → IsComparison V.stands G g.M.Nand.tells shape calls c.loop-at.both → IsComparison V.stands G g.M.Nand.tells shape (calls ++ call ∷ []) c.step.new.self)
+    (c.is_none.ensures ∙ ap not c.if-is_none.false) c.step.ensures.goes_on in
     (from.0, from.1 ++ call ∷ [], goes_on from.0 from.1 from.2)
