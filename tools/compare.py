@@ -16,7 +16,7 @@ TOP = Path(__file__).resolve().parent.parent
 PROGRAM = TOP / "crates" / "nl_compare" / "out" / "nl_compare"
 PAGE = TOP / "docs" / "MEASURED.md"
 PICTURE = TOP / "docs" / "compare.svg"
-GEOMETRIES = ((32, 32), (64, 64), (256, 64))
+GEOMETRIES = ((32, 32), (40, 32), (256, 64))
 SEEDS = (7, 8, 9)
 LINES, WORKERS, EVERY = 5000, 8, 400
 # Bytes of memory. A pair is a link of two numbers in each of two lists; its callback is an entry of 56 bytes and a link of 16 in each of three lists.
